@@ -1,5 +1,5 @@
 -- SPDX-License-Identifier: Apache-2.0
--- Carrying out the lines of a text on a stack of plans: texts that are accepted, and first faults
+-- Carries out the lines of a text on a stack of plans: which texts are accepted, and what the first fault of others is
 -- (docs/PLAN.md, "Steps" and "Refusals"; docs/MODEL.md, "Plan texts").
 use Rattle.std.specs.Prelude.{◌≡◌, ◌≢◌, ℕ, ◌+◌, ◌<◌, ◌≤◌, ◌⊎◌, List, [], ◌∷◌, ◌++◌, length, Some, None, Ok, Err}
 use Rattle.std.specs.Str.Lines.{lines}
@@ -25,7 +25,7 @@ Carries ts (coupon s v) us = (front : List Plan) × (t : Plan) × (ts ≡ front 
 Carries ts (union n m w) us = (front xs : List Plan) × (ts ≡ front ++ xs) × (length xs ≡ n) × (us ≡ front ++ plan.union_plan m w (plans_of xs) ∷ [])
 Carries ts (fold e) us = (front : List Plan) × (t : Plan) × (ts ≡ front ++ t ∷ []) × (e ≤ effective_lg_k t) × (us ≡ front ++ plan.fold t e ∷ [])
 
--- the last plan cannot be folded to an lg_k above its own
+-- the last plan has a smaller lg_k, so it cannot be folded to this one
 abbrev pub LastPlanIsBelow : List Plan → ℕ → Type 0
 LastPlanIsBelow ts e = (front : List Plan) × (t : Plan) × (ts ≡ front ++ t ∷ []) × (effective_lg_k t < e)
 
@@ -37,7 +37,7 @@ IsFaultOfStep ts (coupon s v) e = (ts ≡ []) × (e ≡ faults.Stack)
 IsFaultOfStep ts (union n m w) e = (length ts < n) × (e ≡ faults.Stack)
 IsFaultOfStep ts (fold k) e = ((ts ≡ []) × (e ≡ faults.Stack)) ⊎ (LastPlanIsBelow ts k × (e ≡ faults.Fold))
 
--- a line is a list of bytes in a text, and a step in a list of steps; this is how it is read
+-- a line is a list of bytes in a text, and a step in a list of steps; `reads` says how it is read
 module _ {L : Type 0} (reads : L → Reading) where
   -- ---- lines
 
@@ -58,7 +58,7 @@ module _ {L : Type 0} (reads : L → Reading) where
 
   -- ---- the first fault
 
-  -- on these plans, and after n lines, one of the lines is at fault, and none before it
+  -- on these plans, and after n lines, one of the lines is at fault, and no line before it
   pub record FaultsFrom (ts : List Plan) (n : ℕ) (all : List L) (e : MergeError) : Type 0 where
     pub front : List L
     pub line : L
@@ -69,7 +69,7 @@ module _ {L : Type 0} (reads : L → Reading) where
     pub fault : IsFaultOfLine stack line e.fault
     pub at : e.line ≡ line_number (n + length front + 1)
 
-  -- a line is at fault, and none before it
+  -- a line is at fault, and no line before it
   abbrev pub FaultsAtLine : List L → MergeError → Type 0
   FaultsAtLine all e = FaultsFrom [] 0 all e
 

@@ -1,5 +1,5 @@
 -- SPDX-License-Identifier: Apache-2.0
--- Carrying out a list of steps, and comparing two (docs/MODEL.md, "Plan texts").
+-- Carries out a list of steps, and compares two lists (docs/MODEL.md, "Plan texts").
 use Rattle.std.specs.Prelude.{◌≡◌, ℕ, Bool, true, ◌↔◌, List, All, [], length}
 use Rattle.hll_sketch.specs.Agree.{Agree}
 use Rattle.hll_text.specs.declared.fault.MergeError.{MergeError}
@@ -11,8 +11,8 @@ use Rattle.hll_text.specs.Step.{IsWellFormed}
 use Rattle.hll_text.specs.Text.{PlanStep, line_number}
 use Rattle.hll_merge.specs.Accepting.{itself, Runs, AcceptsSteps, IsFirstFaultOfSteps}
 
--- the sketch is the outcome of the plan of a list of steps: it is legal, means the plan's inputs, and agrees with that of every
--- plan over the same inputs
+-- the sketch is the outcome of the plan of a list of steps: it is legal, has the meaning of the plan's inputs, and agrees with
+-- the outcome of every plan over the same inputs
 pub record IsOutcomeOfSteps (all : List PlanStep) (x : SketchLayout) : Type 0 where
   pub plan : Plan
   pub accepted : AcceptsSteps all plan
@@ -27,7 +27,7 @@ pub record RunsSteps (all : List PlanStep) (xs : List SketchLayout) (number : �
   pub well_formed : All IsWellFormed all
   pub counted : number ≡ line_number (length all)
 
--- both are accepted, and this is whether their outcomes agree; over the same inputs they do
+-- both lists are accepted, and `agree` says whether their outcomes agree; over the same inputs they do
 pub record Compared (left right : List PlanStep) (agree : Bool) : Type 0 where
   pub one : Plan
   pub two : Plan
@@ -38,7 +38,7 @@ pub record Compared (left right : List PlanStep) (agree : Bool) : Type 0 where
   pub is : (agree ≡ true) ↔ Agree (outcome one) (outcome two)
   pub same_inputs : inputs one ≡ inputs two → agree ≡ true
 
--- the left list is not accepted, by this fault; or it is, and the right one is not
+-- the left list is not accepted, with this fault; or it is, and the right list is not
 pub data Incomparable (left right : List PlanStep) (e : MergeError) : Type 0 where
   left_faulty : IsFirstFaultOfSteps left e → Incomparable left right e
   right_faulty : (one : Plan) → AcceptsSteps left one → IsFirstFaultOfSteps right e → Incomparable left right e

@@ -17,19 +17,20 @@ use Rattle.hll_merge.specs.Accepting.{Accepts, AcceptsSteps}
 abbrev pub OutcomeIsLegal : Type 0
 OutcomeIsLegal = (t : Plan) → IsLegalPlan t → IsLegal (outcome t)
 
--- what holds of a plan over canonical images with cleared fields
+-- what holds for a plan over canonical images with cleared fields
 pub record ConvergesAnywhere (t : Plan) : Type 0 where
-  -- so is the outcome, and that of a union is the join of its children's
+  -- its outcome is canonical with cleared fields, and the outcome of a union is the `join_value` of its children's
   pub canonical : Converges t
-  -- children anywhere may be reordered, repeated and grouped, and parts stored: pairs, table size, registers and state are equal
+  -- children may be reordered, repeated and grouped, and parts stored, anywhere in a plan: pairs, table size, registers and
+  -- estimate state are equal
   pub rearranged : (u : Plan) → Leaves IsCanonicalCleared u → IsRearrangement t u → outcome u ≡ outcome t
-  -- and so are the bytes
+  -- and the bytes are the same
   pub same_bytes : (u : Plan) (a b : List ℕ) → Leaves IsCanonicalCleared u → IsRearrangement t u → Written a (outcome t) → Written b (outcome u) → a ≡ b
 
 abbrev pub CanonicalPlansConvergeAnywhere : Type 0
 CanonicalPlansConvergeAnywhere = (t : Plan) → Leaves IsCanonicalCleared t → ConvergesAnywhere t
 
--- what holds of the plan of an accepted text or list of steps
+-- what holds for the plan of an accepted text or list of steps
 pub record Holds (t : Plan) : Type 0 where
   pub legal_plan : IsLegalPlan t
   pub legal : IsLegal (outcome t)
@@ -39,7 +40,7 @@ pub record Holds (t : Plan) : Type 0 where
   pub image : (bytes : List ℕ) → Written bytes (outcome t) → Image bytes (outcome t)
   -- every plan over the same inputs agrees with it, once both are folded to the smaller effective lg_k
   pub agrees : (u : Plan) → IsLegalPlan u → inputs u ≡ inputs t → AgreeFolded t u
-  -- where its images are canonical with cleared fields, order, repetition and grouping show nowhere
+  -- if its images are canonical with cleared fields, order, repetition and grouping make no difference
   pub converges : Leaves IsCanonicalCleared t → ConvergesAnywhere t
 
 -- the plan of a text, and that of a list of steps whose numbers and bytes are in their ranges

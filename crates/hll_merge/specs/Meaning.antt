@@ -6,14 +6,15 @@ use Rattle.hll_sketch.specs.Meaning.{Means}
 use Rattle.hll_sketch.specs.Value.{Sketch, pairs_of, has_nonzero_registers}
 use Rattle.hll_merge.specs.Plan.{Plan, inputs, outcome, effective_lg_k, IsLegalPlan, IsLeafOf}
 
--- what holds of the outcome of a plan
+-- what holds for the outcome of a plan
 pub record HasMeaning (t : Plan) : Type 0 where
   pub lg_k : (outcome t).lg_k ≡ effective_lg_k t
-  -- no register image is spread
+  -- no register image of the plan has a smaller lg_k than the outcome
   pub lowest : (x : Sketch) → IsLeafOf x t → has_nonzero_registers x ≡ true → effective_lg_k t ≤ x.lg_k
-  -- in coupons all inputs, whole slots included; in registers the greatest value among the inputs folded to each slot, or 0
+  -- coupons are all inputs, with their whole slots; registers have at each slot the greatest value among the inputs that fold
+  -- to it, or 0
   pub meaning : Means (effective_lg_k t) (outcome t).content (inputs t)
-  -- and so at each smaller lg_k
+  -- and the same holds at each smaller lg_k
   pub folded : (e : ℕ) → e ≤ effective_lg_k t → fold_to (pairs_of (outcome t)) e ≡ fold_to (inputs t) e
 
 -- ---- laws

@@ -9,7 +9,7 @@ use Rattle.hll_sketch.specs.Adding.{add}
 use Rattle.hll_sketch.specs.Folding.{folded, IsFoldLgK}
 use Rattle.hll_sketch.specs.Merging.{empty_union, merge_all}
 
--- an empty sketch, the sketch of an image, a plan with one coupon more, a union of plans, or a plan folded to an lg_k
+-- an empty sketch, the sketch of an image, a plan with one more coupon, a union of plans, or a plan folded to an lg_k
 mutual
   pub data Plan : Type 0 where
     new : ℕ → HllType → Plan
@@ -27,7 +27,7 @@ abbrev pub plans_of : List Plan → Plans
 plans_of [] = no_plans
 plans_of (t ∷ ts) = more_plans t (plans_of ts)
 
--- all pairs that went in; it knows nothing of stages, sizes or order
+-- all pairs of the plan's images and coupons; they don't depend on stages, sizes or order
 abbrev mutual
   pub inputs : Plan → Pairs
   inputs (new k w) = empty
@@ -40,7 +40,7 @@ abbrev mutual
   inputs_of_each no_plans = empty
   inputs_of_each (more_plans t ts) = union (inputs t) (inputs_of_each ts)
 
--- the sketch that a plan gives: of a union its children's outcomes merged in turn, at its width
+-- the sketch that a plan gives: for a union its children's outcomes, merged in turn, at its width
 abbrev mutual
   pub outcome : Plan → Sketch
   outcome (new k w) = empty_sketch k w
@@ -53,7 +53,8 @@ abbrev mutual
   outcomes no_plans = []
   outcomes (more_plans t ts) = outcome t ∷ outcomes ts
 
--- the effective lg_k: of a union the least of its bound and that of each child in registers that are not all 0, of a fold its own
+-- the effective lg_k: for a union the smallest of its bound and of that of each child in registers that are not all 0; for a
+-- fold its own
 abbrev mutual
   pub effective_lg_k : Plan → ℕ
   effective_lg_k (new k w) = k

@@ -10,7 +10,7 @@ abbrev pub IsChild : Plan → Plans → Type 0
 IsChild t no_plans = ⊥
 IsChild t (more_plans u us) = (t ≡ u) ⊎ IsChild t us
 
--- each child of one is a child of the other, however often and in whatever order
+-- each child of one is a child of the other, in any order and any number of times
 pub record SameChildren (ts us : Plans) : Type 0 where
   pub there : (t : Plan) → IsChild t ts → IsChild t us
   pub back : (t : Plan) → IsChild t us → IsChild t ts
@@ -20,7 +20,8 @@ abbrev pub both_plans : Plans → Plans → Plans
 both_plans no_plans us = us
 both_plans (more_plans t ts) us = more_plans t (both_plans ts us)
 
--- A plan stored as its image and read again, children reordered or repeated, and some of them replaced by one union of the same bound at any width, anywhere in a plan.
+-- A plan may be stored as its image and read again, children may be reordered or repeated, and some of them may be replaced by
+-- one union of the same bound at any width. This may be done anywhere in a plan.
 mutual
   pub data IsRearrangement : Plan → Plan → Type 0 where
     reordered : {m : ℕ} {w : HllType} {ts us : Plans} → SameChildren ts us → IsRearrangement (union_plan m w ts) (union_plan m w us)
@@ -37,6 +38,6 @@ mutual
     none : AreRearrangements no_plans no_plans
     more : {t u : Plan} {ts us : Plans} → IsRearrangement t u → AreRearrangements ts us → AreRearrangements (more_plans t ts) (more_plans u us)
 
--- over canonical images with cleared fields such plans give equal sketches: pairs, table size, registers and state
+-- over canonical images with cleared fields such plans give equal sketches: pairs, table size, registers and estimate state
 abbrev pub RearrangedPlansAgree : Type 0
 RearrangedPlansAgree = (t u : Plan) → Leaves IsCanonicalCleared t → Leaves IsCanonicalCleared u → IsRearrangement t u → outcome t ≡ outcome u

@@ -1,5 +1,5 @@
 -- SPDX-License-Identifier: Apache-2.0
--- What a run leaves (docs/PLAN.md, "A run").
+-- The result of a run (docs/PLAN.md, "A run").
 use Rattle.std.specs.Prelude.{ℕ, ◌<◌, Bool, true, false, ◌≡◌, ◌⊎◌, List, [], length, take, Option, Some, None}
 use Rattle.std.specs.Str.Lines.{lines}
 use Rattle.std.specs.Io.KnownBytes.{Appends, Consumes, IsAtEnd, Keeps}
@@ -11,7 +11,8 @@ use Rattle.hll_text.specs.Text.{ended_lines, line_number, printed_line, reading}
 use Rattle.hll_merge.specs.Accepting.{Runs, Accepts, FaultsAtLine, IsFirstFault}
 use Rattle.hll_merge.specs.Headline.{Holds}
 
--- the streams of a run: what the reader had left before and after, whether it failed, whether the writer did, and what that contained before and after
+-- the streams of a run: what the reader had left before and after, whether it failed, whether the writer failed, and what the
+-- writer contained before and after
 pub record Streams : Type 0 where
   pub before : Option (List ℕ)
   pub after : Option (List ℕ)
@@ -25,8 +26,8 @@ abbrev pub IsAllOf : Option (List ℕ) → List ℕ → Type 0
 IsAllOf None text = Unit {0}
 IsAllOf (Some bytes) text = text ≡ bytes
 
--- the line is what is printed for the outcome of the text's plan; the outcome is legal, what is written is an image of it,
--- it means the plan's inputs, and it agrees with that of every plan over the same inputs
+-- The line is what is printed for the outcome of the text's plan. The outcome is legal, what is written is an image of it, it
+-- has the meaning of the plan's inputs, and it agrees with the outcome of every plan over the same inputs.
 pub record IsAnswer (text line : List ℕ) : Type 0 where
   pub plan : Plan
   pub accepted : Accepts text plan
@@ -35,7 +36,7 @@ pub record IsAnswer (text line : List ℕ) : Type 0 where
   pub written : Written bytes (outcome plan)
   pub shown : line ≡ printed_line bytes
 
--- all was read, and the answer and nothing else was written
+-- all was read, and exactly the line of the outcome was written
 pub record Succeeds (s : Streams) : Type 0 where
   pub reader : s.reader_failed ≡ false
   pub writer : s.writer_failed ≡ false
@@ -46,13 +47,13 @@ pub record Succeeds (s : Streams) : Type 0 where
   pub answer : IsAnswer text line
   pub written : Appends s.old s.new line
 
--- memory was refused, and nothing was written
+-- an allocation failed, and nothing was written
 pub record LacksMemory (s : Streams) (e : MergeError) : Type 0 where
   pub fault : e.fault ≡ Memory
   pub writer : s.writer_failed ≡ false
   pub unwritten : Keeps s.old s.new
 
--- the text is no plan, by its first fault, and nothing was written; some of it may be left unread
+-- the text is not a plan, because of its first fault, and nothing was written; some of the text may not have been read
 pub record IsNoPlan (s : Streams) (e : MergeError) : Type 0 where
   pub reader : s.reader_failed ≡ false
   pub writer : s.writer_failed ≡ false
@@ -63,14 +64,14 @@ pub record IsNoPlan (s : Streams) (e : MergeError) : Type 0 where
   pub read : Consumes s.before s.after taken
   pub first : IsFirstFault text e
 
--- no line that ended is at fault, and this is their number
+-- no line that ended is at fault, and this is the number of these lines
 pub record AllEndedRun (text : List ℕ) (e : MergeError) : Type 0 where
   pub fault : e.fault ≡ Read
   pub at : e.line ≡ line_number (length (ended_lines text))
   pub stack : List Plan
   pub runs : Runs reading [] (ended_lines text) stack
 
--- the reader failed after this text: the answer is the first fault of its lines that ended, or else Read; nothing was written
+-- the reader failed after this text: the error is the first fault of its lines that ended, or else Read; nothing was written
 pub record ReaderFails (s : Streams) (e : MergeError) : Type 0 where
   pub reader : s.reader_failed ≡ true
   pub writer : s.writer_failed ≡ false
@@ -79,7 +80,7 @@ pub record ReaderFails (s : Streams) (e : MergeError) : Type 0 where
   pub read : Consumes s.before s.after text
   pub first : FaultsAtLine reading (ended_lines text) e ⊎ AllEndedRun text e
 
--- the writer failed after a front of the answer that lacks something of it
+-- the writer failed after a proper prefix of the line
 pub record WriterFails (s : Streams) (e : MergeError) : Type 0 where
   pub fault : e.fault ≡ Write
   pub reader : s.reader_failed ≡ false

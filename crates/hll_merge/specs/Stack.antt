@@ -23,7 +23,7 @@ AllRepresent [] (t ∷ ts) = ⊥
 AllRepresent (x ∷ xs) [] = ⊥
 AllRepresent (x ∷ xs) (t ∷ ts) = Represents x t × AllRepresent xs ts
 
--- the last sketch was replaced by another, and the others stayed
+-- the last sketch was replaced by another, and the others are unchanged
 pub record ReplacesLast (old : List SketchLayout) (IsFor : Sketch → Sketch → Type 0) (new : List SketchLayout) : Type 0 where
   pub front : List SketchLayout
   pub last : SketchLayout
@@ -32,14 +32,15 @@ pub record ReplacesLast (old : List SketchLayout) (IsFor : Sketch → Sketch →
   pub value : IsFor (sketch_of last) (sketch_of made)
   pub gives : new ≡ front ++ made ∷ []
 
--- the last sketch is of an lg_k below
+-- the last sketch has a smaller lg_k
 pub record LastIsBelow (old : List SketchLayout) (e : ℕ) : Type 0 where
   pub front : List SketchLayout
   pub last : SketchLayout
   pub is : old ≡ front ++ last ∷ []
   pub below : (sketch_of last).lg_k < e
 
--- the sketches from an index on were replaced by their union under a bound, at a width, and those before it stayed
+-- the sketches from an index on were replaced by their union under a bound, at a width, and the sketches before it are
+-- unchanged
 pub record MergesTail (at bound : ℕ) (width : HllType) (old new : List SketchLayout) : Type 0 where
   pub made : SketchLayout
   pub value : sketch_of made ≡ record (merge_all bound (empty_union bound) (map sketch_of (drop at old))) { width = width }
@@ -47,28 +48,28 @@ pub record MergesTail (at bound : ℕ) (width : HllType) (old new : List SketchL
 
 -- ---- steps and lines, whatever plans the old sketches are outcomes of
 
--- the new sketches are outcomes of what the step makes of the plans
+-- the new sketches are outcomes of the plans after the step
 abbrev pub StackCarries : List SketchLayout → PlanStep → List SketchLayout → Type 0
 StackCarries old step new = (ts : List Plan) → AllRepresent old ts → (us : List Plan) × Carries ts step us × AllRepresent new us
 
--- memory was refused, or this is the fault of the step
+-- an allocation failed, or this is the fault of the step
 abbrev pub StackRefuses : List SketchLayout → PlanStep → Fault → Type 0
 StackRefuses old step e = (ts : List Plan) → AllRepresent old ts → (e ≡ Memory) ⊎ IsFaultOfStep ts step e
 
 -- a line, or the digits of an image, by how they are read
 module _ (reads : List ℕ → Reading) where
-  -- the new sketches are outcomes of what the line makes of the plans
+  -- the new sketches are outcomes of the plans after the line
   abbrev pub StackGives : List SketchLayout → List ℕ → List SketchLayout → Type 0
   StackGives old line new = (ts : List Plan) → AllRepresent old ts → (us : List Plan) × Gives reads ts line us × AllRepresent new us
 
-  -- memory was refused, or this is the fault of the line
+  -- an allocation failed, or this is the fault of the line
   abbrev pub StackFaults : List SketchLayout → List ℕ → Fault → Type 0
   StackFaults old line e = (ts : List Plan) → AllRepresent old ts → (e ≡ Memory) ⊎ IsFaultOfLine reads ts line e
 
--- the new sketches are outcomes of what the lines in turn make of the plans
+-- the new sketches are outcomes of the plans after the lines, in turn
 abbrev pub StackRuns : List SketchLayout → List (List ℕ) → List SketchLayout → Type 0
 StackRuns old lines new = (ts : List Plan) → AllRepresent old ts → (us : List Plan) × Runs reading ts lines us × AllRepresent new us
 
--- memory was refused, or one of these lines is at fault, and none before it; so many lines came before all of these
+-- an allocation failed, or one of these lines is at fault, and no line before it; `n` lines came before all of these
 abbrev pub StackStops : List SketchLayout → ℕ → List (List ℕ) → MergeError → Type 0
 StackStops old n lines e = (ts : List Plan) → AllRepresent old ts → (e.fault ≡ Memory) ⊎ FaultsFrom reading ts n lines e

@@ -21,19 +21,19 @@ pub record OneFirstFault : Type 0 where
   pub of_text : (text : List ℕ) (d e : MergeError) → IsFirstFault text d → IsFirstFault text e → d ≡ e
   pub of_steps : (all : List PlanStep) (d e : MergeError) → IsFirstFaultOfSteps all d → IsFirstFaultOfSteps all e → d ≡ e
 
--- a text that is accepted has no first fault, nor has such a list of steps
+-- a text that is accepted has no first fault, and neither has such a list of steps
 pub record AcceptedIsFaultless : Type 0 where
   pub of_text : (text : List ℕ) (t : Plan) (e : MergeError) → Accepts text t → IsFirstFault text e → ⊥
   pub of_steps : (all : List PlanStep) (t : Plan) (e : MergeError) → AcceptsSteps all t → IsFirstFaultOfSteps all e → ⊥
 
--- a fault of a text itself is none of memory or a stream, and that of an image is one of data
+-- the fault of a text itself is not one of memory or of a stream, and the fault of an image is one of its data
 pub record IsOwnFault (e : Fault) : Type 0 where
   pub not_memory : e ≢ faults.Memory
   pub not_read : e ≢ faults.Read
   pub not_write : e ≢ faults.Write
   pub of_data : (r : Reason) → e ≡ faults.Image r → kind_of r ≡ InvalidData
 
--- for any lines, and for a list of steps
+-- first faults of any lines, and of a list of steps, are faults of the text itself
 pub record FirstFaultsAreOwn : Type 0 where
   pub of_lines : (all : List (List ℕ)) (e : MergeError) → IsFirstFaultOfLines reading all e → IsOwnFault e.fault
   pub of_steps : (all : List PlanStep) (e : MergeError) → IsFirstFaultOfSteps all e → IsOwnFault e.fault

@@ -1,5 +1,5 @@
 // SPDX-License-Identifier: Apache-2.0
-//! Carrying out a list of steps, and comparing two (docs/MODEL.md, "Plan texts").
+//! Carries out a list of steps, and compares two lists (docs/MODEL.md, "Plan texts").
 ghost use Rattle.std.specs.Prelude.{◌≡◌, ◌<◌, ◌⊎◌, length, map, IfErr, MatchResult};
 ghost use Rattle.std.specs.List.{All};
 ghost use Rattle.hll_text.specs.Step.{step_of, IsInRange};
@@ -16,9 +16,9 @@ use std::alloc::Allocator;
 
 /// Returns the sketch of a list of steps: the outcome of its plan.
 ///
-/// The numbers of the steps are in their ranges (docs/PLAN.md, "The text"). A refusal is `Memory`, or the first fault of
-/// the steps: `Image`, `Stack` or `Fold` with the number of the step, from 1, or `Stack` with the number of steps where
-/// not exactly one sketch is left. Takes memory for the stack of sketches, and none where there are no steps.
+/// The numbers of the steps are in their ranges (docs/PLAN.md, "The text"). Fails with `Memory`, or with the first fault of the
+/// steps: `Image`, `Stack` or `Fold` with the number of the step, counted from 1, or `Stack` with the number of steps if not
+/// exactly one sketch is left. Allocates the stack of sketches, and nothing if there are no steps.
 pub fn evaluate<A: Allocator + Clone>(
     alloc: A,
     steps: &[Step<A>],
@@ -63,9 +63,9 @@ fn carry_steps<A: Allocator + Clone>(
 
 /// Returns whether the sketches of two lists of steps fold to the same registers at the smaller `lg_k` of both.
 ///
-/// The numbers of the steps are in their ranges. The left list is carried out first. A refusal is `Memory`, or the first
-/// fault of the left list, or else of the right one. Takes memory for both sketches, and two bytes a register at the
-/// smaller `lg_k`.
+/// The numbers of the steps are in their ranges. The left list is carried out first. Fails with `Memory`, or with the first
+/// fault of the left list, or else of the right one. Allocates both sketches, and two bytes for each register at the smaller
+/// `lg_k`.
 pub fn compare<A: Allocator + Clone>(
     alloc: A,
     left: &[Step<A>],

@@ -14,8 +14,8 @@ use hll_text::lines::{line_end, next_ended, without_return};
 use std::alloc::{AllocError, Allocator, Global};
 use std::marker::Model;
 
-/// Carries out the line that is pending, if the piece has its LF, after `count` others. Returns what is left of the piece,
-/// and how many lines there were in all.
+/// Carries out the pending line, if the piece has its LF, after `count` other lines. Returns what is left of the piece, and the
+/// number of lines so far.
 fn close_line<'p, A: Allocator + Clone>(
     stack: &mut Stack<A>,
     pending: &mut Vec<u8, A>,
@@ -47,8 +47,8 @@ fn close_line<'p, A: Allocator + Clone>(
     }
 }
 
-/// Carries out the lines that end in what is pending and a piece, after `count` others. Returns how many there were in
-/// all; what follows the last LF is pending then.
+/// Carries out the lines that end in the pending bytes and a piece, after `count` other lines. Returns the number of lines so
+/// far. The bytes after the last LF are then pending.
 fn take_piece<A: Allocator + Clone>(
     stack: &mut Stack<A>,
     pending: &mut Vec<u8, A>,
@@ -85,7 +85,7 @@ fn take_piece<A: Allocator + Clone>(
 }
 
 /// A plan that comes in pieces: the sketches that its lines made so far, and the bytes of the line that has not ended.
-/// Contracts see these, the number of lines that ended, and the fault that stays.
+/// Contracts see these, the number of lines that ended, and the fault that was found.
 #[derive(Drop)]
 pub struct PlanFeed<A: Allocator = Global> {
     stack: Stack<A>,
@@ -107,7 +107,7 @@ impl<A: Allocator> Model for PlanFeed<A> {
 }
 
 impl<A: Allocator> PlanFeed<A> {
-    /// Returns the bytes of the line that has not ended: what follows the last LF, none after a fault.
+    /// Returns the bytes of the line that has not ended: the bytes after the last LF, or none after a fault.
     pub fn pending(&self) -> &[u8]
         ensures { result.now ≡ self.now.pending }
     {
@@ -123,7 +123,7 @@ impl<A: Allocator> PlanFeed<A> {
 }
 
 impl<A: Allocator + Clone> PlanFeed<A> {
-    /// Returns no text yet, and no sketches. `Memory` where a clone of the allocator is refused.
+    /// Returns a feed without text or sketches. Fails with `Memory` if cloning the allocator fails.
     pub fn new(alloc: A) -> Result<PlanFeed<A>, MergeError>
         ensures ok { IfOk result (λ f. f ≡ unfed) }
         ensures err { IfErr result (λ e. e.fault ≡ Memory) }
@@ -134,7 +134,7 @@ impl<A: Allocator + Clone> PlanFeed<A> {
         }
     }
 
-    /// Returns no text yet, and no sketches. Fails where a clone of the allocator does.
+    /// Returns a feed without text or sketches. Fails if cloning the allocator fails.
     fn unfed(alloc: A) -> Result<PlanFeed<A>, AllocError>
         ensures { IfOk result (λ f. f ≡ unfed) }
     {
@@ -147,10 +147,10 @@ impl<A: Allocator + Clone> PlanFeed<A> {
         })
     }
 
-    /// Carries out every line that ended so far. A line that stands whole in the piece is read where it stands.
+    /// Carries out every line that ended so far. A line that is whole in the piece is read there, without a copy.
     ///
-    /// A refusal is `Memory`, or the first fault of the text so far, with its line. It stays: each later call answers it
-    /// again and does nothing, and no bytes are pending. How the text is cut into pieces makes no difference.
+    /// Fails with `Memory`, or with the first fault of the text so far, with its line. Each later call then fails with the same
+    /// error and does nothing, and no bytes are pending. How the text is cut into pieces makes no difference.
     pub fn feed(&mut self, piece: &[u8]) -> Result<(), MergeError>
         ensures piece { MatchOption self.old.fault
             (MatchResult result (λ _. TakesPiece self.old piece.now self.new) (λ e. RefusesPiece self.old piece.now self.new e))
@@ -175,8 +175,8 @@ impl<A: Allocator + Clone> PlanFeed<A> {
 
     /// Carries out the last line if it lacks an LF, and returns the one sketch that is left.
     ///
-    /// A refusal is the fault that stays, `Memory`, or the first fault of the text: that of its last line, or `Stack` where
-    /// not exactly one sketch is left. Takes no memory where nothing is pending, or a line that is skipped.
+    /// Fails with the error of an earlier call, with `Memory`, or with the first fault of the text: that of its last line, or
+    /// `Stack` if not exactly one sketch is left. Allocates nothing if nothing is pending, or only a line that is skipped.
     pub fn finish(self) -> Result<HllSketch<A>, MergeError>
         ensures stopped { IfSome self.fault (λ e. result ≡ Err e) }
         ensures end { self.fault ≡ None → MatchResult result (Finishes self) (RefusesEnd self) }
@@ -189,7 +189,7 @@ impl<A: Allocator + Clone> PlanFeed<A> {
         }
     }
 
-    /// Returns as `finish`, and also returns the number of lines of the text.
+    /// Returns what `finish` does, and the number of lines of the text.
     pub(crate) fn finished(self) -> Result<(HllSketch<A>, u64), MergeError>
         ensures stopped { IfSome self.fault (λ e. result ≡ Err e) }
         ensures end { self.fault ≡ None → MatchResult result
@@ -234,7 +234,7 @@ impl<A: Allocator + Clone> PlanFeed<A> {
     }
 }
 
-/// The law of cuts: two feeds of one text agree, however it was cut. Does nothing.
+/// The law of cuts: two feeds of one text agree, however it was cut. Does nothing at run time.
 pub fn cuts_agree()
     ensures { CutsAgree }
 {}

@@ -1,5 +1,5 @@
 // SPDX-License-Identifier: Apache-2.0
-//! Plans of sketches: text in, the image of one sketch out.
+//! Plans of sketches: reads a text, and prints the image of one sketch.
 #![tactic(auto)]
 
 pub mod evaluate;

@@ -1,5 +1,5 @@
 // SPDX-License-Identifier: Apache-2.0
-//! Running a plan: its text is read, and the image of its sketch is written.
+//! Runs a plan: reads its text, and writes the image of its sketch.
 ghost use Rattle.std.specs.Prelude.{◌≡◌, ℕ, List, None, Some, length, false, MatchResult, IfErr, OnOk};
 ghost use Rattle.std.specs.Io.KnownBytes.{Consumes, IsAtEnd};
 ghost use Rattle.std.specs.Str.Lines.{lines};
@@ -15,17 +15,17 @@ use hll_text::watched::Watched;
 use std::alloc::Allocator;
 use std::io;
 
-/// The most bytes that one read may return.
+/// The greatest number of bytes that one read may return.
 const READ_SIZE: usize = 65536;
 
 /// Reads a plan to its end, and writes the image of its sketch as lower-case hexadecimal and LF (docs/PLAN.md, "A run").
 ///
-/// Neither stream may have failed before. What is said of bytes presupposes streams whose bytes are known.
+/// Neither stream may have failed before. What the contract says of bytes holds for streams whose bytes are known.
 ///
-/// Each piece that the reader gives is carried out at once: memory is taken for the stack of sketches, for a line that is
-/// not whole in a piece, and for the bytes of an image that is read or written. A refusal is `Memory` where memory was refused
-/// (its line is free), the first fault of the text with its line, `Read` where the reader failed, or `Write` where the
-/// writer failed. Nothing is written on a refusal, but for a front of the answer with `Write`.
+/// Each piece that the reader returns is carried out at once. Allocates the stack of sketches, a line that is not whole in a
+/// piece, and the bytes of an image that is read or written. Fails with `Memory` if an allocation fails (the contract says
+/// nothing of its line), with the first fault of the text and its line, with `Read` if the reader failed, or with `Write` if
+/// the writer failed. On an error nothing is written, except that with `Write` a prefix of the output may be.
 pub fn run<A: Allocator + Clone, R: io::Read, W: io::Write>(
     alloc: A,
     reader: &mut Watched<R>,
@@ -55,7 +55,7 @@ pub fn run<A: Allocator + Clone, R: io::Read, W: io::Write>(
     }
 }
 
-/// Feeds what a stream gives, piece by piece, until it ends or fails, or a line that ended is at fault.
+/// Feeds what a stream returns, piece by piece, until it ends or fails, or until a line that ended is at fault.
 fn feed_all<A: Allocator + Clone, R: io::Read>(
     feed: &mut PlanFeed<A>,
     reader: &mut Watched<R>,
@@ -82,7 +82,7 @@ fn feed_all<A: Allocator + Clone, R: io::Read>(
     }
 }
 
-/// Returns the image of the plan of a text that was fed, and the number of its lines.
+/// The image of the plan of a text that was fed, and the number of its lines.
 fn image_of<A: Allocator + Clone>(feed: PlanFeed<A>) -> Result<(Vec<u8, A>, u64), MergeError>
     ensures { feed.fault ≡ None → (text : List ℕ) → IsFedBy text feed → MatchResult result
         (λ r. IsAnswer text (printed_line r.0.items) × (r.1 ≡ line_number (length (lines text)))) (StopsText text) }

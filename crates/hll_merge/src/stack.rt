@@ -1,5 +1,5 @@
 // SPDX-License-Identifier: Apache-2.0
-//! The sketches of a plan while its lines are carried out, the last one on top.
+//! The sketches of a plan while its lines are carried out; the last one is the top of the stack.
 ghost use Rattle.std.specs.Prelude.{◌≡◌, ◌≢◌, ◌+◌, ◌≤◌, ◌<◌, ◌⊎◌, ◌++◌, ◌∷◌, [], length, map, take, drop, true, false, Ok, Err, None, OnOk, OnErr, IfOk, IfErr, IfSome, IfNone};
 ghost use Rattle.hll_coupons.specs.Pair.{value_of, set_of};
 ghost use Rattle.hll_sketch.specs.Adding.{add};
@@ -25,8 +25,8 @@ use std::alloc::{AllocError, Allocator};
 use std::marker::Model;
 use std::mem;
 
-/// The sketches of a plan, the last one on top, and a buffer for the bytes of their images. Contracts see the list of
-/// sketches.
+/// The sketches of a plan, of which the last one is on top, and a buffer for the bytes of their images. Contracts see the list
+/// of sketches.
 #[derive(Drop)]
 pub(crate) struct Stack<A: Allocator> {
     sketches: Vec<HllSketch<A>, A>,
@@ -43,7 +43,7 @@ impl<A: Allocator> Model for Stack<A> {
 }
 
 impl<A: Allocator> Stack<A> {
-    /// Returns the one sketch, where there is just one.
+    /// Returns the sketch if there is exactly one, else `None`.
     pub(crate) fn into_only(self) -> Option<HllSketch<A>>
         ensures one { IfSome result (λ x. self ≡ x ∷ []) }
         ensures other { IfNone result (length self ≡ 1 → ⊥) }
@@ -58,7 +58,7 @@ impl<A: Allocator> Stack<A> {
 }
 
 impl<A: Allocator + Clone> Stack<A> {
-    /// Returns no sketches. Fails where the allocator's own clone does.
+    /// Returns an empty stack. Fails if cloning the allocator fails.
     pub(crate) fn new(alloc: A) -> Result<Self, AllocError>
         ensures { IfOk result (λ s. s ≡ []) }
     {
@@ -69,12 +69,12 @@ impl<A: Allocator + Clone> Stack<A> {
         })
     }
 
-    /// Returns a clone of the allocator. Fails where the allocator's own clone does.
+    /// Returns a clone of the allocator. Fails if cloning it fails.
     fn cloned_allocator(&self) -> Result<A, AllocError> {
         self.sketches.allocator().clone()
     }
 
-    /// Pushes an empty sketch. `Memory` where a larger stack is refused.
+    /// Pushes an empty sketch. Fails with `Memory` if the stack can't grow or the sketch can't be made.
     fn push_new(&mut self, lg_k: u8, hll_type: HllType) -> Result<(), Fault>
         requires { IsLgK lg_k }
         ensures ok { OnOk result (StackCarries self.old (new lg_k hll_type) self.new) }
@@ -86,8 +86,8 @@ impl<A: Allocator + Clone> Stack<A> {
         Ok(())
     }
 
-    /// Pushes the sketch of an image. `Image` with the reason of the first check that it fails, or `Memory`, also where a
-    /// larger stack is refused.
+    /// Pushes the sketch of an image. Fails with `Image` and the reason of the first check that it fails, or with `Memory`,
+    /// also if the stack can't grow.
     fn push_image(&mut self, bytes: &[u8]) -> Result<(), Fault>
         ensures ok { OnOk result (StackCarries self.old (image bytes.now) self.new) }
         ensures err { IfErr result (λ e. StackRefuses self.old (image bytes.now) e) }
@@ -99,8 +99,8 @@ impl<A: Allocator + Clone> Stack<A> {
         Ok(())
     }
 
-    /// Puts the union of the last `count` sketches in their place. `Stack` where there are fewer, or `Memory`, also where a
-    /// larger stack is refused.
+    /// Replaces the last `count` sketches by their union. Fails with `Stack` if there are fewer, or with `Memory`, also if the
+    /// stack can't grow.
     fn push_union(&mut self, count: u32, lg_max_k: u8, hll_type: HllType) -> Result<(), Fault>
         requires { IsLgK lg_max_k }
         ensures ok { OnOk result (StackCarries self.old (union count lg_max_k hll_type) self.new) }
@@ -116,8 +116,8 @@ impl<A: Allocator + Clone> Stack<A> {
         self.merge_aside(at, lg_max_k, hll_type)
     }
 
-    /// Puts the union of the sketches from an index on in their place, where the first of them can take in the others
-    /// without memory, and answers whether it did. Otherwise nothing changes.
+    /// Replaces the sketches from an index on by their union, if the others can be merged into the first of them without an
+    /// allocation, and returns whether it did. Otherwise nothing changes.
     fn merge_in_place(&mut self, at: usize, lg_max_k: u8, hll_type: HllType) -> bool
         requires bound { IsLgK lg_max_k }
         requires within { at ≤ length self.old }
@@ -135,7 +135,8 @@ impl<A: Allocator + Clone> Stack<A> {
         true
     }
 
-    /// Puts the union of the sketches from an index on in their place. `Memory` where it, or a larger stack, is refused.
+    /// Replaces the sketches from an index on by their union. Fails with `Memory` if the union can't be made or the stack can't
+    /// grow.
     fn merge_aside(&mut self, at: usize, lg_max_k: u8, hll_type: HllType) -> Result<(), Fault>
         requires bound { IsLgK lg_max_k }
         requires within { at ≤ length self.old }
@@ -148,7 +149,7 @@ impl<A: Allocator + Clone> Stack<A> {
         self.replace_from(at, sketch)
     }
 
-    /// Puts a sketch in the place of those from an index on. `Memory` where a larger stack is refused.
+    /// Replaces the sketches from an index on by one sketch. Fails with `Memory` if the stack can't grow.
     fn replace_from(&mut self, at: usize, sketch: HllSketch<A>) -> Result<(), Fault>
         requires { at ≤ length self.old }
         ensures ok { OnOk result (self.new ≡ take at self.old ++ sketch ∷ []) }
@@ -162,7 +163,7 @@ impl<A: Allocator + Clone> Stack<A> {
         Ok(())
     }
 
-    /// Adds a coupon to the last sketch. `Stack` where there is none; `Memory` as the sketch says.
+    /// Adds a coupon to the last sketch. Fails with `Stack` if there is none, or with `Memory` as the sketch does.
     fn add_coupon(&mut self, coupon: Coupon) -> Result<(), Fault>
         requires { 1 ≤ value_of coupon }
         ensures ok { OnOk result (ReplacesLast self.old (λ x y. y ≡ add x (set_of (coupon ∷ []))) self.new) }
@@ -176,8 +177,8 @@ impl<A: Allocator + Clone> Stack<A> {
         Ok(())
     }
 
-    /// Folds the last sketch to an `lg_k`, in place where it stays as it is. `Stack` where there is none, `Fold` where its own
-    /// is below, or `Memory`.
+    /// Folds the last sketch to an `lg_k`. A sketch that is its own fold is left as it is. Fails with `Stack` if there is no
+    /// sketch, `Fold` if its own `lg_k` is smaller, or `Memory`.
     fn fold_last(&mut self, lg_k: u8) -> Result<(), Fault>
         requires { IsLgK lg_k }
         ensures ok { OnOk result (ReplacesLast self.old (λ x y. (lg_k ≤ x.lg_k) × (y ≡ folding.folded x lg_k)) self.new) }
@@ -199,8 +200,8 @@ impl<A: Allocator + Clone> Stack<A> {
 
     /// Carries out a step.
     ///
-    /// `Memory` where a sketch, or a larger stack, is refused; `Image`, `Stack` and `Fold` as the plan says. A refusal
-    /// leaves the stack as it was.
+    /// Fails with `Memory` if a sketch can't be made or the stack can't grow, or with `Image`, `Stack` or `Fold` as the plan
+    /// says. On an error the stack is unchanged.
     pub(crate) fn carry_out(&mut self, step: &Step<A>) -> Result<(), Fault>
         requires { IsInRange (step_of step.now) }
         ensures ok { OnOk result (StackCarries self.old (step_of step.now) self.new) }
@@ -219,8 +220,8 @@ impl<A: Allocator + Clone> Stack<A> {
         }
     }
 
-    /// Returns the bytes that the digits of an image stand for, in the one buffer, which is taken. `Hex` where they are not an
-    /// even number of hexadecimal digits, or `Memory` where a larger buffer is refused.
+    /// Returns the bytes that the digits of an image stand for, in the buffer, which is moved out. Fails with `Hex` if they are
+    /// not an even number of hexadecimal digits, or with `Memory` if the buffer can't grow.
     fn decode(&mut self, digits: &[u8]) -> Result<Vec<u8, A>, Fault>
         ensures ok { IfOk result (λ bytes. image_step digits.now ≡ Ok (image bytes.items)) }
         ensures err { IfErr result (λ e. (e ≡ Memory) ⊎ ((e ≡ faults.Hex) × (image_step digits.now ≡ Err faults.Hex))) }
@@ -230,8 +231,8 @@ impl<A: Allocator + Clone> Stack<A> {
         decode_into(mem::replace(&mut self.image, emptied), digits)
     }
 
-    /// Pushes the sketch of an image from its digits, which are decoded into the one buffer. `Hex` where they are not an
-    /// even number of hexadecimal digits, else as `push_image`, or `Memory` where a larger buffer is refused.
+    /// Pushes the sketch of an image from its digits, which are decoded into the buffer. Fails with `Hex` if they are not an
+    /// even number of hexadecimal digits, else as `push_image` does, or with `Memory` if the buffer can't grow.
     fn push_digits(&mut self, digits: &[u8]) -> Result<(), Fault>
         ensures ok { OnOk result (StackGives image_reading self.old digits.now self.new) }
         ensures err { IfErr result (λ e. StackFaults image_reading self.old digits.now e) }
@@ -245,7 +246,7 @@ impl<A: Allocator + Clone> Stack<A> {
         Ok(())
     }
 
-    /// Reads a line and carries it out. A refusal leaves the stack as it was; a line that is skipped is never refused.
+    /// Reads a line and carries it out. On an error the stack is unchanged. A line that is skipped never fails.
     pub(crate) fn carry_line(&mut self, line: &[u8]) -> Result<(), Fault>
         ensures ok { OnOk result (StackGives reading self.old line.now self.new) }
         ensures err { IfErr result (λ e. StackFaults reading self.old line.now e) }
@@ -260,8 +261,8 @@ impl<A: Allocator + Clone> Stack<A> {
     }
 }
 
-/// Makes the sketch at an index the union of those from there on, at eight bits, where that takes no memory, and answers
-/// whether it did. The others stay as they are, and where it didn't, so does this one.
+/// Replaces the sketch at an index by the union of the sketches from there on, at a width of 8 bits, if that allocates nothing,
+/// and returns whether it did. The other sketches are unchanged. If it returns false, this sketch is unchanged too.
 fn merge_tail<A: Allocator + Clone>(sketches: &mut [HllSketch<A>], at: usize, lg_max_k: u8) -> bool
     requires bound { IsLgK lg_max_k }
     requires within { at ≤ length sketches.old }

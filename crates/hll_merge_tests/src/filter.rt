@@ -1,5 +1,5 @@
 // SPDX-License-Identifier: Apache-2.0
-//! Lines and what is printed for them, whole and over streams that move a byte at a time and fail.
+//! Lines and what is printed for them, from whole texts and over streams that move one byte at a time and fail.
 use hll_base::error::Reason;
 use hll_estimator_fields::run::run;
 use hll_fakes::{Failing, Narrow};
@@ -9,14 +9,15 @@ use std::alloc::{AllocError, Global};
 use std::process::Abort;
 use std::test::Fail;
 
-/// Sixteen registers of eight bits, of which one is 5, with words of their own, and with the fields of an estimator.
+/// Sixteen 8-bit registers, of which one is 5: with estimator fields from elsewhere, and with the fields that follow from the
+/// registers.
 const GIVEN: &str =
     "0a0107040000000a0100000000000000020000000000000003000000000000000f0000000000000005000000000000000000000000000000";
 
 const SET: &str =
     "0a0107040010000a00000000000000000000000000102e4000000000000000000f0000000000000005000000000000000000000000000000";
 
-/// A text, what is printed for it, and why it is refused, if it is.
+/// A text, what is printed for it, and why it is rejected, if it is.
 struct Row {
     text: &'static str,
     printed: &'static str,
@@ -40,7 +41,7 @@ const ROWS: [Row; 13] = [
         printed: "02010704030801080500000c\n02010704030801080500000c\n",
         refusal: None,
     },
-    // what follows an image is left out
+    // what follows an image is not printed
     Row {
         text: "02010704030801080500000cffff\n",
         printed: "02010704030801080500000c\n",
@@ -84,7 +85,7 @@ const ROWS: [Row; 13] = [
         printed: "",
         refusal: Some((1, Fault::Hex)),
     },
-    // the lines before one that is refused are printed
+    // the lines before one that is rejected are printed
     Row {
         text: "02010704030801080500000c\n0202\n02010704030801080500000c\n",
         printed: "02010704030801080500000c\n",
@@ -97,14 +98,14 @@ const ROWS: [Row; 13] = [
     },
 ];
 
-/// What the filter answers, and what it printed.
+/// What the filter returned, and what it printed.
 #[derive(Drop)]
 struct Outcome {
     answer: Result<(), MergeError>,
     printed: Vec<u8>,
 }
 
-/// Runs the filter on a text that is there whole.
+/// Runs the filter on a whole text.
 fn filtered(alloc: Global, text: &str) -> Outcome {
     let mut reader = Watched::new(text.as_bytes());
     let mut writer = Watched::new(Vec::new(alloc));
@@ -115,8 +116,8 @@ fn filtered(alloc: Global, text: &str) -> Outcome {
     }
 }
 
-/// Runs the filter on a text that comes a byte at a time, from a reader that fails after some reads, to a writer that takes
-/// a byte at a time and fails after some.
+/// Runs the filter on a text that comes one byte at a time, from a reader that fails after some reads, to a writer that accepts
+/// one byte at a time and fails after some.
 fn filtered_narrowly(alloc: Global, text: &str, calls: u32, room: usize) -> Outcome {
     let mut printed = Vec::new(alloc);
     let mut reader = Watched::new(Failing {
@@ -134,7 +135,7 @@ fn filtered_narrowly(alloc: Global, text: &str, calls: u32, room: usize) -> Outc
     Outcome { answer, printed }
 }
 
-/// Returns the answer of a row.
+/// Returns the expected result of a row.
 fn answer_of(row: &Row) -> Result<(), MergeError> {
     match row.refusal {
         None => Ok(()),
@@ -142,7 +143,7 @@ fn answer_of(row: &Row) -> Result<(), MergeError> {
     }
 }
 
-/// A run gives the answer of its row.
+/// Checks that a run gives what its row expects.
 fn assert_gives(rt: &impl Abort, outcome: Outcome, row: &Row) {
     assert_eq!(rt; outcome.answer, answer_of(row), "{}", row.text);
     assert_eq!(rt;
@@ -175,7 +176,7 @@ fn text_of(alloc: Global, lines: &[&str]) -> Result<String, AllocError> {
     Ok(text)
 }
 
-/// Registers come out with their words, and once more as they are.
+/// Registers are printed with their estimator fields set, and printed the same if they go through the filter again.
 #[test]
 fn words(rt: HostRuntime) -> Result<(), Fail> {
     let wanted = text_of(rt.alloc(), &[SET, SET])?;
@@ -188,7 +189,7 @@ fn words(rt: HostRuntime) -> Result<(), Fail> {
     Ok(())
 }
 
-/// A reader that fails at any of its calls: what ended before is printed, and the number of its lines told.
+/// A reader that fails at any of its calls: the lines that ended before are printed, and the error has their number.
 #[test]
 fn reads_that_fail(rt: HostRuntime) {
     let text = "02010704030801080500000c\n02010704030801080500000c\n";
@@ -200,7 +201,7 @@ fn reads_that_fail(rt: HostRuntime) {
     }
 }
 
-/// A writer that fails after any byte: those bytes went out, and the line that was cut off is told.
+/// A writer that fails after any byte: the bytes before were written, and the error has the line that was cut off.
 #[test]
 fn writes_that_fail(rt: HostRuntime) {
     let text = "02010704030801080500000c\n02010704030801080500000c\n";

@@ -1,11 +1,11 @@
 // SPDX-License-Identifier: Apache-2.0
-//! Plans run over memory.
+//! Runs plans in memory.
 use hll_merge::run::run;
 use hll_text::fault::MergeError;
 use hll_text::watched::Watched;
 use std::test::Fail;
 
-/// Runs a plan over memory: what it answers, and what it wrote.
+/// Runs a plan in memory. Returns its result, and what it wrote.
 pub(crate) fn run_over(rt: &HostRuntime, text: &[u8]) -> (Result<(), MergeError>, Vec<u8>) {
     let mut reader = Watched::new(text);
     let mut writer = Watched::new(Vec::new(rt.alloc()));

@@ -1,9 +1,9 @@
 // SPDX-License-Identifier: Apache-2.0
-//! The image of two million registers over memory.
+//! The image of two million registers, in memory.
 use crate::fixtures::{line_of, run_over};
 use std::test::Fail;
 
-/// The greatest `lg_k`, two million registers: the image prints itself.
+/// The greatest `lg_k`, two million registers: the plan prints the same image.
 #[test]
 fn many_registers(rt: HostRuntime) -> Result<(), Fail> {
     let sevens = vec![in rt.alloc(); 7; 2_097_152]?;

@@ -7,7 +7,7 @@ use hll_text::reading::{decode_into, faults_of_lines, read_step};
 use hll_text::step::Step;
 use std::test::Fail;
 
-/// Lines that are no step, and their faults.
+/// Lines that are not a step, and their faults.
 const REFUSED: [(&[u8], Fault); 12] = [
     (b"new  10 8", Fault::Syntax),
     (b"new 123456789 8", Fault::Syntax),
@@ -49,7 +49,7 @@ fn steps(rt: HostRuntime) -> Result<(), Fail> {
     Ok(())
 }
 
-/// The first line of a text that has an LF, and what follows it; the CR before it belongs to its end.
+/// The first line of a text that has an LF, and what follows it. The CR before the LF belongs to the line's end.
 #[test]
 fn first_lines(rt: HostRuntime) {
     let rows: [(&[u8], Option<(&[u8], &[u8])>); 6] = [
@@ -69,7 +69,7 @@ fn first_lines(rt: HostRuntime) {
     lines_of_cuts();
 }
 
-/// An LF at each place of texts round two blocks, and others after it, and a text that lacks it.
+/// An LF at each index of texts of about two blocks, with others after it, and a text that lacks it.
 #[test]
 fn first_ends(rt: HostRuntime) {
     for len in 0..150usize {
@@ -83,7 +83,7 @@ fn first_ends(rt: HostRuntime) {
     }
 }
 
-/// One buffer serves digits after digits, shorter ones too.
+/// One buffer is used for digits after digits, also for fewer digits.
 #[test]
 fn decoded_images(rt: HostRuntime) -> Result<(), Fail> {
     let rows: [(&[u8], Result<&[u8], Fault>); 6] = [

@@ -1,10 +1,10 @@
 // SPDX-License-Identifier: Apache-2.0
-//! Plans that come in pieces: what is pending, a fault that stays, and many lines.
+//! Plans that come in pieces: what is pending, a fault that is kept, and many lines.
 use hll_merge::feed::{PlanFeed, cuts_agree};
 use hll_text::fault::Fault;
 use std::test::Fail;
 
-/// Bytes without an LF are pending, and a fault stays.
+/// Bytes without an LF are pending, and a fault is kept.
 #[test]
 fn pending_and_faults(rt: HostRuntime) -> Result<(), Fail> {
     let mut feed = PlanFeed::new(rt.alloc())?;

@@ -1,5 +1,5 @@
 // SPDX-License-Identifier: Apache-2.0
-//! Watched streams that work and that fail, what is printed over them, and the lines of refusals.
+//! Watched streams that work and that fail, what is printed over them, and the lines of errors.
 use hll_base::error::Reason;
 use hll_fakes::{Failing, Narrow};
 use hll_text::fault::{Fault, MergeError};
@@ -8,7 +8,7 @@ use hll_text::streams::{write_all, write_hex_line};
 use hll_text::watched::Watched;
 use std::test::Fail;
 
-/// Each read calls the stream once, and fails only where the stream fails.
+/// Each read calls the stream once, and fails only if the stream fails.
 #[test]
 fn watched_reads(rt: HostRuntime) -> Result<(), Fail> {
     let mut reader = Watched::new(Failing {
@@ -32,7 +32,7 @@ fn watched_reads(rt: HostRuntime) -> Result<(), Fail> {
     Ok(())
 }
 
-/// Digits and LF, in pieces where they are many; a front of them where the stream has no room for more.
+/// Writes digits and LF, in pieces if they are many. A stream without enough room gets a prefix of them.
 #[test]
 fn hex_lines(rt: HostRuntime) -> Result<(), Fail> {
     for count in [0usize, 1, 16383, 16384, 16385, 40000] {
@@ -68,8 +68,8 @@ fn hex_lines(rt: HostRuntime) -> Result<(), Fail> {
     Ok(())
 }
 
-/// All is written where the stream has room, and what it has room for where it has not. An empty piece is passed on,
-/// and is no failure where nothing of it is taken.
+/// All bytes are written if the stream has room, else as many as there is room for. An empty piece is passed on, and it is not
+/// a failure if nothing of it is accepted.
 #[test]
 fn watched_writes(rt: HostRuntime) -> Result<(), Fail> {
     let line: &[u8] = b"0201\n";
@@ -104,7 +104,7 @@ fn watched_writes(rt: HostRuntime) -> Result<(), Fail> {
     Ok(())
 }
 
-/// A front of the line went out where the writer fails.
+/// If the writer fails, a prefix of the line was written.
 #[test]
 fn refusals_to_writers_that_fail(rt: HostRuntime) -> Result<(), Fail> {
     let refusal = MergeError {

@@ -1,5 +1,5 @@
 // SPDX-License-Identifier: Apache-2.0
-//! Texts of plans over memory: long lines, and readers that fail.
+//! Texts of plans in memory: long lines, and readers that fail.
 use crate::fixtures::run_over;
 use hll_fakes::Failing;
 use hll_merge::run::run;
@@ -24,7 +24,7 @@ fn long_lines(rt: HostRuntime) -> Result<(), Fail> {
     Ok(())
 }
 
-/// A reader that fails at each call: the first fault of the lines that ended, or else the failed read.
+/// A reader that fails at each call: the error is the first fault of the lines that ended, or else the failed read.
 #[test]
 fn failing_reads(rt: HostRuntime) {
     let rows: [(&[u8], u32, u64, Fault); 7] = [

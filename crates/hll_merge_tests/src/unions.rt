@@ -1,13 +1,13 @@
 // SPDX-License-Identifier: Apache-2.0
-//! Unions of a thousand sketches of eight bits over memory.
+//! Unions of a thousand 8-bit sketches in memory.
 use crate::fixtures::prints;
 use std::test::Fail;
 
-/// What a thousand sketches print, the one of number n with slot n and value n modulo 63 and one more.
+/// What a thousand sketches print. Sketch n has one coupon, with slot n and value n modulo 63, plus one.
 const THOUSAND: &str =
     "0a0107070010000a00000000000000000000000000000000000000000000000000000000000000000f101112131415161718191a1b1c1d1e1f202122232425262728292a2b2c2d2e2f303132333435363738393a3b3c3d3e3f3e3f3e3f3e3f3e3f3e3f3e3f3e3f0f101112131415161718191a1b1c1d1e1f202122232425262728292a2b2c2d2e2f3031323334353637363738393a3b3c3d3e3f3e3f3e3f3e3f3e3f3e3f3e3f0d0e\n";
 
-/// Returns the lines of a thousand sketches of one coupon each, with some lines after each.
+/// Returns the lines of a thousand sketches of one coupon each, with the lines `after` following each.
 fn thousand(rt: &HostRuntime, after: &str) -> Result<String, Fail> {
     let mut text = String::new(rt.alloc());
     for number in 0..1000u32 {
@@ -18,7 +18,7 @@ fn thousand(rt: &HostRuntime, after: &str) -> Result<String, Fail> {
     Ok(text)
 }
 
-/// A thousand sketches at once, one after the other, and all the same.
+/// Merges a thousand sketches at once, and one after the other; and a thousand equal sketches.
 #[test]
 fn many_sketches(rt: HostRuntime) -> Result<(), Fail> {
     let mut at_once = thousand(&rt, "")?;

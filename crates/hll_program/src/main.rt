@@ -17,7 +17,7 @@ fn main(rt: HostRuntime) -> ExitCode {
     match run(rt.alloc(), &mut reader, &mut writer) {
         Ok(()) => ExitCode::SUCCESS,
         Err(refusal) => {
-            // If standard error fails too, only the exit status is left.
+            // if standard error fails too, only the exit status is left
             let _ = write_refusal(&mut rt.stderr(), &refusal);
             ExitCode::FAILURE
         }

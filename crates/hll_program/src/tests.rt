@@ -1,11 +1,11 @@
 // SPDX-License-Identifier: Apache-2.0
-//! The lines of refusals.
+//! Tests the lines that are printed for errors.
 use crate::refusal::write_refusal;
 use hll_base::error::Reason;
 use hll_text::fault::{Fault, MergeError};
 use std::test::Fail;
 
-/// Refusals, and the lines that are printed for them.
+/// Errors, and the lines that are printed for them.
 const LINES: [(u64, Fault, &[u8]); 10] = [
     (1, Fault::Syntax, b"line 1: syntax\n"),
     (2, Fault::Range, b"line 2: range\n"),
@@ -38,7 +38,7 @@ fn lines_of_refusals(rt: HostRuntime) -> Result<(), Fail> {
     Ok(())
 }
 
-/// A front of the line goes out where the writer has no room for all of it.
+/// If the writer has no room for all of a line, a prefix of it is written.
 #[test]
 fn lines_to_a_writer_that_is_full(rt: HostRuntime) -> Result<(), Fail> {
     let refusal = MergeError {

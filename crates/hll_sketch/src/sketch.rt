@@ -535,8 +535,8 @@ impl<A: Allocator> fmt::Debug for HllSketch<A> {
     }
 }
 
-/// Sketches are equal if their `lg_k`, kind, width and coupons are equal, or their registers and estimate states. The order of
-/// buckets doesn't count.
+/// Sketches are equal if their `lg_k`, kind, width and coupons are equal, or their registers and estimate states. The
+/// buckets of their tables don't count.
 impl<A: Allocator> PartialEq for HllSketch<A> {
     ghost use Rattle.hll_sketch.specs.Same.{same_sketch, same_sketch-partial};
 

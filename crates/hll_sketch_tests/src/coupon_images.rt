@@ -1,5 +1,5 @@
 // SPDX-License-Identifier: Apache-2.0
-//! Images of coupons made into others from bytes to bytes, beside the sketches that they are read as.
+//! Makes images of coupons from images of coupons, and compares them with the sketches that these are read as.
 ghost use Rattle.std.specs.Prelude.{◌≤◌};
 
 use crate::fixtures::{WIDTHS, filled, updatable_image, with_bytes_twice};
@@ -9,7 +9,7 @@ use hll_sketch::{HllSketch, HllUnion, coupon_image_at, union_of_coupon_images};
 use std::alloc::Global;
 use std::test::Fail;
 
-/// How many coupons, and the `lg_k`: lists, sets of several sizes, and registers.
+/// The number of coupons, and the `lg_k`: lists, sets of several sizes, and registers.
 const SOURCES: [(u32, u8); 9] = [
     (0, 10),
     (1, 10),
@@ -22,7 +22,7 @@ const SOURCES: [(u32, u8); 9] = [
     (300, 8),
 ];
 
-/// Returns the image of a sketch of six bits with this many coupons, and of the values below a number.
+/// Returns the image of a sketch with a width of 6 bits, of this many coupons and of the values below a number.
 fn image_of(alloc: Global, source: (u32, u8), from: u32) -> Result<Vec<u8>, Error> {
     let (count, lg_k) = source;
     let mut sketch = filled(alloc, lg_k, HllType::Hll6, count, 63)?;
@@ -32,7 +32,7 @@ fn image_of(alloc: Global, source: (u32, u8), from: u32) -> Result<Vec<u8>, Erro
     sketch.serialize()
 }
 
-/// Returns the image of the union of two images, by a union.
+/// Returns the image of the union of two images, made with a union.
 fn by_union(alloc: Global, hll_type: HllType, left: &[u8], right: &[u8]) -> Result<Vec<u8>, Error> {
     let mut union = HllUnion::new(alloc, 10)?;
     union.update_with_image(left)?;
@@ -40,7 +40,7 @@ fn by_union(alloc: Global, hll_type: HllType, left: &[u8], right: &[u8]) -> Resu
     union.into_sketch(hll_type)?.serialize()
 }
 
-/// Returns whether what is made of two images is that of their union, or nothing.
+/// Returns whether what is made of two images is the image of their union, or nothing.
 fn union_is_right(
     alloc: Global,
     hll_type: HllType,
@@ -58,8 +58,8 @@ fn is_made(alloc: Global, left: &[u8], right: &[u8]) -> Result<bool, Error> {
     Ok(union_of_coupon_images(alloc, 10, HllType::Hll8, left, right)?.is_some())
 }
 
-/// Unions of coupons of which some, all or none are in both: what is made is what a union gives, and it is made where both
-/// are of coupons, the first at the bound, and a table holds them.
+/// Unions of images that have some, all or none of their coupons in common. What is made is what a union gives, and it is made
+/// if both have coupons, the first is at the bound, and a table holds all coupons.
 #[test]
 fn unions_of_coupons(rt: HostRuntime) -> Result<(), Fail> {
     for (number, one) in SOURCES.into_iter().enumerate() {
@@ -95,8 +95,9 @@ fn image_at_is_right(alloc: Global, hll_type: HllType, image: &[u8]) -> Result<b
     }
 }
 
-/// Each image of coupons at each width, and with one of its first bytes changed, so that coupons fall, come twice or have no
-/// value: what is made is the image of the sketch that it is read as, and the union with another is right.
+/// Makes images at each width from each image of coupons, also with one of its first bytes changed, so that coupons descend,
+/// are repeated or have the value 0. What is made is the image of the sketch that it is read as, and the union with another
+/// image is right.
 #[test]
 fn changed_images_of_coupons(rt: HostRuntime) -> Result<(), Fail> {
     for source in [(3, 10), (8, 10), (30, 10)] {
@@ -147,7 +148,7 @@ fn descending(alloc: Global, image: &[u8]) -> Result<Vec<u8>, Error> {
     Ok(turned)
 }
 
-/// Returns whether an image is made of an image at each width, and of its union with another, on either side.
+/// Returns whether an image is made from an image at each width, and from its union with another, on either side.
 fn is_made_of(alloc: Global, image: &[u8], other: &[u8]) -> Result<bool, Error> {
     let mut made = is_made(alloc, image, other)? && is_made(alloc, other, image)?;
     for hll_type in WIDTHS {
@@ -156,7 +157,7 @@ fn is_made_of(alloc: Global, image: &[u8], other: &[u8]) -> Result<bool, Error> 
     Ok(made)
 }
 
-/// Returns whether what is made of an image at each width, and of its union with another, on either side, is right.
+/// Returns whether what is made from an image at each width, and from its union with another, on either side, is right.
 fn all_are_right(alloc: Global, image: &[u8], other: &[u8]) -> Result<bool, Error> {
     let mut right = true;
     for hll_type in WIDTHS {
@@ -168,8 +169,8 @@ fn all_are_right(alloc: Global, image: &[u8], other: &[u8]) -> Result<bool, Erro
     Ok(right)
 }
 
-/// Images as other libraries write them, whose coupons don't ascend or stand in the buckets of a table: what is made is what
-/// is read and written, and it is made of up to 128 coupons; of none where a coupon is there twice.
+/// Images as other libraries write them, whose coupons don't ascend or are in the buckets of a table. What is made is what is
+/// read and written. It is made for up to 128 coupons, and for none if a coupon is repeated.
 #[test]
 fn images_of_others(rt: HostRuntime) -> Result<(), Fail> {
     let other = image_of(rt.alloc(), (5, 10), 0)?;
@@ -190,7 +191,7 @@ fn images_of_others(rt: HostRuntime) -> Result<(), Fail> {
     Ok(())
 }
 
-/// At most 128 coupons in any order are made into an image, and any number that ascend.
+/// An image is made of at most 128 coupons in any order, and of any number of coupons that ascend.
 #[test]
 fn few_coupons_of_others(rt: HostRuntime) -> Result<(), Fail> {
     for (source, few) in [((128, 12), true), ((129, 12), false)] {

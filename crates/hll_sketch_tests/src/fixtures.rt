@@ -11,7 +11,7 @@ use std::alloc::{Allocator, Global};
 /// All widths.
 pub(crate) const WIDTHS: [HllType; 3] = [HllType::Hll4, HllType::Hll6, HllType::Hll8];
 
-/// Returns a sketch with coupons that have each slot from 0 on, and in turn the values from 1 to the greatest.
+/// Returns a sketch with coupons of the slots from 0 on. Their values are 1 to the greatest, in turn.
 pub(crate) fn filled<A: Allocator + Clone>(
     alloc: A,
     lg_k: u8,
@@ -30,7 +30,7 @@ pub(crate) fn filled<A: Allocator + Clone>(
     Ok(sketch)
 }
 
-/// Returns the last place of the table of an image of coupons.
+/// Returns the index of the last bucket of the table of an image of coupons.
 fn last_bucket(image: &[u8]) -> usize
     ensures { result ≤ 255 }
 {
@@ -43,8 +43,8 @@ fn last_bucket(image: &[u8]) -> usize
     }
 }
 
-/// Returns the image of a list or a set of this many coupons with all buckets of its table, the empty ones among the others,
-/// and more bytes after it.
+/// Returns the image of a list or a set of this many coupons with all buckets of its table, including the empty ones, and more
+/// bytes after it.
 pub(crate) fn updatable_image(alloc: Global, source: (u32, u8)) -> Result<Vec<u8>, Error> {
     let (count, lg_k) = source;
     let compact = filled(alloc, lg_k, HllType::Hll8, count, 63)?.serialize()?;
@@ -65,7 +65,7 @@ pub(crate) fn updatable_image(alloc: Global, source: (u32, u8)) -> Result<Vec<u8
     Ok(image)
 }
 
-/// Returns an image with the four bytes at one place copied to another.
+/// Returns an image with the four bytes at one index copied to another.
 pub(crate) fn with_bytes_twice(
     alloc: Global,
     image: &[u8],

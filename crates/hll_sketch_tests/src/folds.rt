@@ -11,14 +11,14 @@ use std::alloc::Global;
 use std::process::Abort;
 use std::test::Fail;
 
-/// Returns the registers at an `lg_k` of a sketch of 8.
+/// Returns the registers at an `lg_k` of a sketch of `lg_k` 8.
 fn registers_of(alloc: Global, hll_type: HllType, count: u32, lg_k: u8) -> Result<Vec<u8>, Error> {
     let sketch = filled(alloc, 8, hll_type, count, 63)?;
     let lg_k = lg_k.max(4).min(sketch.lg_config_k());
     sketch.registers_at(lg_k)
 }
 
-/// The registers of every width are the same.
+/// The registers are the same for every width.
 #[test]
 fn registers(rt: HostRuntime) -> Result<(), Fail> {
     for count in [0u32, 7, 8, 20, 40, 200] {

@@ -33,7 +33,7 @@ fn written(alloc: Global, image: &[u8]) -> Result<Vec<u8>, Error> {
     HllSketch::deserialize(alloc, image)?.serialize()
 }
 
-/// Gaps between filled buckets are closed, and the coupons keep their order until they are written, in ascending order.
+/// Gaps between filled buckets are closed. The coupons keep their order until they are written, in ascending order.
 #[test]
 fn lists(rt: HostRuntime) -> Result<(), Fail> {
     let placed = [Some(Coupon::pack(7, 2)), Some(Coupon::pack(5, 1)), None];

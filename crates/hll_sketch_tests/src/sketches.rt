@@ -1,5 +1,5 @@
 // SPDX-License-Identifier: Apache-2.0
-//! Sketches of every width through their stages: what they keep, count and write.
+//! Sketches of every width in each stage: what they hold, count and write.
 ghost use Rattle.std.specs.Prelude.{◌≤◌};
 
 use crate::fixtures::{WIDTHS, filled};
@@ -12,7 +12,7 @@ use std::alloc::{Allocator, Global};
 use std::process::Abort;
 use std::test::Fail;
 
-/// Returns a coupon, if it has a value.
+/// Adds a coupon, if its value is above 0.
 fn add<A: Allocator + Clone>(sketch: &mut HllSketch<A>, slot: u32, value: u8) -> Result<(), Error>
     requires { value ≤ 63 }
 {
@@ -23,7 +23,7 @@ fn add<A: Allocator + Clone>(sketch: &mut HllSketch<A>, slot: u32, value: u8) ->
     Ok(())
 }
 
-/// What a sketch keeps.
+/// What a sketch holds.
 #[derive(Clone, Copy, Debug, PartialEq, Eq)]
 enum Kind {
     List,
@@ -31,7 +31,7 @@ enum Kind {
     Registers(HllType),
 }
 
-/// Returns what is kept, the number of buckets, and of coupons.
+/// Returns the kind of table, the number of buckets, and the number of coupons.
 fn table_of<A: Allocator>(sketch: &HllSketch<A>) -> (Kind, usize, Option<usize>) {
     match sketch.mode() {
         Mode::List { list, .. } => (
@@ -46,8 +46,8 @@ fn table_of<A: Allocator>(sketch: &HllSketch<A>) -> (Kind, usize, Option<usize>)
     }
 }
 
-/// At each `lg_k` how many coupons come, and what keeps them: a table, or none where registers do, its buckets, and the
-/// size in bytes at four, six and eight bits.
+/// At each `lg_k` a number of coupons, and what holds them: a table with its number of buckets, or no table for registers, and
+/// the size in bytes with 4, 6 and 8 bits.
 const STAGES: [(u8, u32, Option<Kind>, usize, [usize; 3]); 14] = [
     (4, 0, Some(Kind::List), 8, [32; 3]),
     (4, 7, Some(Kind::List), 8, [32; 3]),
@@ -89,7 +89,7 @@ fn stages(rt: HostRuntime) -> Result<(), Fail> {
     Ok(())
 }
 
-/// At `lg_k` 8 a list, a set of 32 buckets and registers follow one another; at 4 a list and registers.
+/// At `lg_k` 8 a list is followed by a set of 32 buckets, and that by registers; at 4 a list is followed by registers.
 #[test]
 fn stages_of_counts(rt: HostRuntime) {
     assert_eq!(rt; stage(8, 3, 7), Some(3));
@@ -131,22 +131,22 @@ fn with_another(
     Ok(sketch)
 }
 
-/// Returns whether two sketches are equal, asked either way.
+/// Returns whether two sketches are equal, compared in both directions.
 fn equals(sketch: &HllSketch, made: Result<HllSketch, Error>) -> Result<bool, Error> {
     let other = made?;
     let same = *sketch == other;
     Ok(same && other == *sketch)
 }
 
-/// Returns whether two sketches differ, asked either way.
+/// Returns whether two sketches differ, compared in both directions.
 fn differs(sketch: &HllSketch, made: Result<HllSketch, Error>) -> Result<bool, Error> {
     let other = made?;
     let differ = *sketch != other;
     Ok(differ && other != *sketch)
 }
 
-/// One set of coupons in two orders is one sketch, and so are its copy and one that had each coupon twice; another
-/// width, `lg_k`, kind or coupon is not.
+/// A set of coupons in two orders gives equal sketches. So do a copy, and a sketch to which each coupon was added twice. A
+/// sketch of another width, `lg_k` or kind, or with another coupon, is not equal.
 fn equal_in(rt: &impl Abort, alloc: Global, lg_k: u8, count: u32) -> Result<(), Fail> {
     for hll_type in WIDTHS {
         let sketch = filled(alloc, lg_k, hll_type, count, 1)?;
@@ -175,7 +175,7 @@ fn equality(rt: HostRuntime) -> Result<(), Fail> {
     Ok(())
 }
 
-/// Returns whether the image of a sketch takes just as much memory as it has bytes.
+/// Returns whether the image of a sketch allocates exactly as many bytes as it has.
 fn fits_its_image(made: Result<HllSketch, Error>) -> Result<bool, Error> {
     let image = made?.serialize()?;
     Ok(image.capacity() == image.len())
@@ -191,7 +191,7 @@ fn sizes_of_images(rt: HostRuntime) {
     }
 }
 
-/// Returns a sketch of four bits after the values below a number.
+/// Returns a sketch with a width of 4 bits of the values below a number.
 fn of_values(alloc: Global, count: u64) -> Result<HllSketch, Error> {
     let mut sketch = HllSketch::new(alloc, 12, HllType::Hll4)?;
     for value in 0..count {
@@ -200,7 +200,7 @@ fn of_values(alloc: Global, count: u64) -> Result<HllSketch, Error> {
     Ok(sketch)
 }
 
-/// Returns a sketch of four bits after the coupons of these values.
+/// Returns a sketch with a width of 4 bits of the coupons of these values.
 fn of_coupons(alloc: Global, count: u64) -> Result<HllSketch, Error> {
     let mut sketch = HllSketch::new(alloc, 12, HllType::Hll4)?;
     for value in 0..count {

@@ -1,5 +1,5 @@
 // SPDX-License-Identifier: Apache-2.0
-//! Unions: widths, orders and values that are merged into them.
+//! Unions of sketches of several widths and orders, of values, and of images.
 use crate::fixtures::{WIDTHS, filled, updatable_image, with_bytes_twice};
 use hll_base::error::Error;
 use hll_base::hll_type::HllType;
@@ -8,7 +8,7 @@ use hll_sketch::{HllSketch, HllUnion, agree};
 use std::alloc::Global;
 use std::test::Fail;
 
-/// How many coupons, and the `lg_k`: a list, sets and registers of sizes below, at and above the bound of 8.
+/// The number of coupons, and the `lg_k`: a list, sets and registers of sizes below, at and above the bound of 8.
 const SOURCES: [(u32, u8); 7] = [
     (3, 8),
     (7, 21),
@@ -31,7 +31,7 @@ fn merge_filled(
     union.update(&sketch)
 }
 
-/// Returns the union of two sketches of one width, under the bound of 8.
+/// Returns the union of two sketches of the same width, under the bound of 8.
 fn union_in(
     alloc: Global,
     hll_type: HllType,
@@ -44,26 +44,26 @@ fn union_in(
     Ok(union)
 }
 
-/// Returns whether what two unions give, the first at this width, agrees.
+/// Returns whether the results of two unions agree, the first at this width.
 fn agree_at(one: &HllUnion, hll_type: HllType, other: &HllUnion) -> Result<bool, Error> {
     let sketch = one.to_sketch(hll_type)?;
     agree(&sketch, &other.to_sketch(HllType::Hll8)?)
 }
 
-/// Returns whether two unions give the same sketch of eight bits.
+/// Returns whether two unions give the same 8-bit sketch.
 fn give_one_sketch(one: &HllUnion, other: &HllUnion) -> Result<bool, Error> {
     let sketch = one.to_sketch(HllType::Hll8)?;
     Ok(sketch == other.to_sketch(HllType::Hll8)?)
 }
 
-/// Returns whether a union that is used up gives what it gives before.
+/// Returns whether a union gives the same sketch when it is consumed as before.
 fn gives_the_same_at_last(union: HllUnion, hll_type: HllType) -> Result<bool, Error> {
     let sketch = union.to_sketch(hll_type)?;
     Ok(union.into_sketch(hll_type)? == sketch)
 }
 
-/// Each width into each: what a union gives goes by coupons and registers, and not by the width or the order of sources,
-/// and it agrees with each source merged again.
+/// Merges sketches of each width. The result follows from the coupons and registers, not from the width or the order of the
+/// sources, and it agrees with the result after each source is merged again.
 #[test]
 fn widths_and_orders(rt: HostRuntime) -> Result<(), Fail> {
     for first in SOURCES {
@@ -81,7 +81,7 @@ fn widths_and_orders(rt: HostRuntime) -> Result<(), Fail> {
     Ok(())
 }
 
-/// Returns a sketch of six bits after the values below a number.
+/// Returns a sketch with a width of 6 bits of the values below a number.
 fn sketch_of_values(alloc: Global, count: u64) -> Result<HllSketch, Error> {
     let mut sketch = HllSketch::new(alloc, 11, HllType::Hll6)?;
     for value in 0..count {
@@ -90,7 +90,7 @@ fn sketch_of_values(alloc: Global, count: u64) -> Result<HllSketch, Error> {
     Ok(sketch)
 }
 
-/// Returns a union after the same values.
+/// Returns a union of the same values.
 fn union_of_values(alloc: Global, count: u64) -> Result<HllUnion, Error> {
     let mut union = HllUnion::new(alloc, 11)?;
     for value in 0..count {
@@ -99,13 +99,13 @@ fn union_of_values(alloc: Global, count: u64) -> Result<HllUnion, Error> {
     Ok(union)
 }
 
-/// Returns whether what a call made gives this sketch of six bits.
+/// Returns whether the union that a call made gives this sketch with a width of 6 bits.
 fn gives(made: Result<HllUnion, Error>, sketch: &HllSketch) -> Result<bool, Error> {
     let union = made?;
     Ok(union.into_sketch(HllType::Hll6)? == *sketch)
 }
 
-/// Returns whether the copy of what a call made gives this sketch of six bits.
+/// Returns whether the copy of the union that a call made gives this sketch with a width of 6 bits.
 fn copy_gives(made: Result<HllUnion, Error>, sketch: &HllSketch) -> Result<bool, Error> {
     let union = made?;
     gives(union.clone(), sketch)
@@ -135,7 +135,7 @@ fn union_with(alloc: Global, count: u32) -> Result<HllUnion, Error> {
     Ok(union)
 }
 
-/// A union, and whether an image was merged into it, or why not.
+/// A union, and whether an image was merged into it, or why it was not.
 type Merged = Result<(HllSketch, Result<(), Error>), Error>;
 
 /// Merges an image into a union of this many coupons.
@@ -145,7 +145,7 @@ fn with_image(alloc: Global, count: u32, image: &[u8]) -> Merged {
     Ok((union.into_sketch(HllType::Hll8)?, answer))
 }
 
-/// Merges the sketch that an image is read as.
+/// Merges the sketch that an image is read as into such a union.
 fn with_sketch(alloc: Global, count: u32, image: &[u8]) -> Merged {
     let mut union = union_with(alloc, count)?;
     let answer = match HllSketch::deserialize(alloc, image) {
@@ -155,7 +155,7 @@ fn with_sketch(alloc: Global, count: u32, image: &[u8]) -> Merged {
     Ok((union.into_sketch(HllType::Hll8)?, answer))
 }
 
-/// Returns whether an image is checked as it is read.
+/// Returns whether checking an image gives the result of reading it.
 fn is_checked_alike(alloc: Global, image: &[u8]) -> bool {
     let read = match HllSketch::deserialize(alloc, image) {
         Ok(_) => Ok(()),
@@ -164,8 +164,8 @@ fn is_checked_alike(alloc: Global, image: &[u8]) -> bool {
     HllSketch::check(alloc, image) == read
 }
 
-/// Returns whether an image merged, and the sketch that it is read as, give the same answer and leave the same union, and a
-/// check of it answers as the read does.
+/// Returns whether merging an image, and merging the sketch that it is read as, give the same result and the same union, and
+/// whether checking the image gives the result of reading it.
 fn merge_alike(alloc: Global, count: u32, image: &[u8]) -> Result<bool, Error> {
     let merged = with_image(alloc, count, image)?;
     Ok(merged == with_sketch(alloc, count, image)? && is_checked_alike(alloc, image))
@@ -179,8 +179,8 @@ fn image_of(alloc: Global, hll_type: HllType, source: (u32, u8)) -> Result<Vec<u
     Ok(image)
 }
 
-/// Returns whether an image with one byte changed is merged as the sketch that it is read as, at each of so many bytes from a
-/// place on, as far as there are any.
+/// Returns whether an image with one byte changed is merged as the sketch that it is read as, for each of some bytes from an
+/// index on, as far as there are any.
 fn changes_merge_alike(
     alloc: Global,
     count: u32,
@@ -208,7 +208,7 @@ fn changes_merge_alike(
     Ok(alike)
 }
 
-/// Returns whether each front of an image is merged as the sketch that it is read as.
+/// Returns whether each prefix of an image is merged as the sketch that it is read as.
 fn fronts_merge_alike(alloc: Global, count: u32, image: &[u8]) -> Result<bool, Error> {
     let mut alike = true;
     for length in 0..image.len().min(100) {
@@ -217,8 +217,8 @@ fn fronts_merge_alike(alloc: Global, count: u32, image: &[u8]) -> Result<bool, E
     Ok(alike)
 }
 
-/// Images are merged as the sketches that they are read as, into nothing, a list, a set and registers: those of each stage
-/// and width, cut short, and with a byte changed, so that coupons fall, come twice or have no value.
+/// Images are merged as the sketches that they are read as, into nothing, a list, a set and registers: images of each stage and
+/// width, cut short, and with a byte changed, so that coupons descend, are repeated or have the value 0.
 #[test]
 fn images(rt: HostRuntime) -> Result<(), Fail> {
     for count in [0, 5, 30, 300] {
@@ -265,9 +265,9 @@ fn with_few_exceptions(
     Ok(sketch)
 }
 
-/// Images of registers are merged as the sketches that they are read as, also where few of them are exceptions: at the same
-/// `lg_k` as the union, a smaller one and a greater one, cut short, and with a byte changed, so that counts, nibbles and
-/// exceptions are wrong or don't agree.
+/// Images of registers are merged as the sketches that they are read as, also if they have few exceptions: at the same `lg_k`
+/// as the union, a smaller one and a greater one, cut short, and with a byte changed, so that counts, nibbles and exceptions
+/// are wrong or don't agree.
 #[test]
 fn images_of_registers(rt: HostRuntime) -> Result<(), Fail> {
     for count in [5, 300] {
@@ -311,8 +311,8 @@ fn raw_coupons_merge_alike(alloc: Global, count: u32, image: &[u8]) -> Result<bo
 }
 
 /// Updatable images are merged as the sketches that they are read as, into nothing, a list, a set and registers: lists, and
-/// sets of up to 128 coupons and of more, as they are, cut short, and with bytes and words changed, so that coupons fall,
-/// come twice, have no value, or are not as many as is said.
+/// sets of up to 128 coupons and of more, as they are, cut short, and with bytes and raw coupons changed, so that coupons
+/// descend, are repeated, have the value 0, or are not as many as the count says.
 #[test]
 fn updatable_images(rt: HostRuntime) -> Result<(), Fail> {
     for count in [0, 5, 30, 300] {

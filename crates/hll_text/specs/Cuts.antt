@@ -9,8 +9,8 @@ use Rattle.hll_text.specs.Text.{ended_lines, open_line, line_of_rest}
 abbrev pub IsOpen : List ℕ → Type 0
 IsOpen bytes = All (λ b. (b == 10) ≡ false) bytes
 
--- The lines that end in a text of two pieces are those that end in the first, and then those that end once the second follows the
--- open line of the first; so it is with the open line. A text's lines are those that end, and its open line.
+-- The lines that end in a text of two pieces are those that end in the first, and then those that end in the open line of the
+-- first followed by the second. The same holds for the open line. A text's lines are those that end, and its open line.
 pub record CutsAt (a b : List ℕ) : Type 0 where
   pub ended : ended_lines (a ++ b) ≡ ended_lines a ++ ended_lines (open_line a ++ b)
   pub rest : open_line (a ++ b) ≡ open_line (open_line a ++ b)
@@ -19,7 +19,8 @@ pub record CutsAt (a b : List ℕ) : Type 0 where
 abbrev pub LinesOfCuts : Type 0
 LinesOfCuts = (a b : List ℕ) → CutsAt a b
 
--- what is pending before a piece is ended by it, if the piece has an LF: lines that end, and what is left of both
+-- Pending bytes and a piece. If the piece has an LF, it ends the pending line: `ended` are the lines that ended, `left` are the
+-- bytes that are still pending, and `rest` is what is left of the piece.
 pub record Closes (pending piece left rest : List ℕ) (ended : List (List ℕ)) : Type 0 where
   pub lines : ended_lines (pending ++ piece) ≡ ended ++ ended_lines rest
   pub open_bytes : open_line (pending ++ piece) ≡ left ++ open_line rest

@@ -1,5 +1,5 @@
 -- SPDX-License-Identifier: Apache-2.0
--- The line that is printed for a refusal (docs/PLAN.md, "Refusals").
+-- The line that is printed for an error (docs/PLAN.md, "Refusals").
 use Rattle.std.specs.Prelude.{◌≡◌, ◌<◌, ℕ, length, List, [], ◌∷◌, ◌++◌, Option, Result, MatchResult, codes, decimal}
 use Rattle.std.specs.Io.KnownBytes.{Appends}
 use Rattle.hll_base.specs.Reason.{word_of}
@@ -23,7 +23,7 @@ words_of faults.Fold = codes "fold"
 abbrev pub refusal_line : MergeError → List ℕ
 refusal_line refusal = (codes "line " ++ (decimal refusal.line ++ codes ": ")) ++ (words_of refusal.fault ++ 10 ∷ [])
 
--- a front of the bytes went out, and something of them did not
+-- a proper prefix of the bytes was written
 pub record AppendsFront (old new : Option (List ℕ)) (bytes : List ℕ) : Type 0 where
   pub sent : List ℕ
   pub rest : List ℕ
@@ -31,6 +31,6 @@ pub record AppendsFront (old new : Option (List ℕ)) (bytes : List ℕ) : Type 
   pub lacks : 0 < length rest
   pub appended : Appends old new sent
 
--- the bytes went out at Ok, and a front of them at Err, which is Write
+-- at Ok the bytes were written; at Err, which is Write, a proper prefix of them
 abbrev pub Sends : {T : Type 0} → Option (List ℕ) → Option (List ℕ) → Result T Fault → List ℕ → Type 0
 Sends old new result bytes = MatchResult result (λ _. Appends old new bytes) (λ e. (e ≡ faults.Write) × AppendsFront old new bytes)

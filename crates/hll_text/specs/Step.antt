@@ -20,42 +20,42 @@ step_of (steps.Coupon s v) = coupon s v
 step_of (steps.Union n m w) = union n m w
 step_of (steps.Fold e) = fold e
 
--- the plan's step or the fault, of what a reader of a step returns
+-- the plan's step or the fault, from the result of a reader of a step
 abbrev pub step_reading_of : {A : Type 0} → Result (Step A) Fault → Result PlanStep Fault
 step_reading_of (Ok step) = Ok (step_of step)
 step_reading_of (Err e) = Err e
 
--- the line's reading, of what a reader of a line returns
+-- the line's reading, from the result of a reader of a line
 abbrev pub reading_of : {A : Type 0} → Result (Option (Step A)) Fault → Reading
 reading_of (Err e) = Err e
 reading_of (Ok None) = Ok None
 reading_of (Ok (Some step)) = Ok (Some (step_of step))
 
--- the line's reading, of what a reader returns that leaves the digits of an image as they are
+-- the line's reading, from the result of a reader that leaves the digits of an image as they are
 abbrev pub line_reading_of : {A : Type 0} → Result (Line A) Fault → Reading
 line_reading_of (Err e) = Err e
 line_reading_of (Ok lines.Skipped) = Ok None
 line_reading_of (Ok (lines.Image digits)) = image_reading digits.now
 line_reading_of (Ok (lines.Step step)) = Ok (Some (step_of step))
 
--- where a line says an image
+-- if a line says an image
 abbrev pub IfImage : {A : Type 0} → Line A → Type 0 → Type 0
 IfImage lines.Skipped P = Unit {0}
 IfImage (lines.Image digits) P = P
 IfImage (lines.Step step) P = Unit {0}
 
--- where a line says another step
+-- if a line says another step
 abbrev pub IfStep : {A : Type 0} → Line A → (Step A → Type 0) → Type 0
 IfStep lines.Skipped P = Unit {0}
 IfStep (lines.Image digits) P = Unit {0}
 IfStep (lines.Step step) P = P step
 
--- the bytes of a token or the fault, of what a reader of a token returns
+-- the bytes of a token or the fault, from the result of a reader of a token
 abbrev pub token_of : Result (Bor (List ℕ)) Fault → Result (List ℕ) Fault
 token_of (Ok token) = Ok token.now
 token_of (Err e) = Err e
 
--- what a reader of a line returns: what its tokens say, or that memory was refused for the bytes of an image
+-- the result of a reader of a line: what its tokens say, or that an allocation for the bytes of an image failed
 abbrev pub ReadsAs : {A : Type 0} → List (List ℕ) → Reading → Result (Option (Step A)) Fault → Type 0
 ReadsAs tokens reading r = (reading_of r ≡ reading) ⊎ ((names_image tokens ≡ true) × (r ≡ Err faults.Memory))
 

@@ -55,7 +55,7 @@ Err e >>= f = Err e
 abbrev pub tokens : List ℕ → List (List ℕ)
 tokens line = slice_split (λ b. b == 32) line
 
--- the tokens after a space, or none where there is no space
+-- the tokens after a space, or no tokens if there is no space
 abbrev pub tokens_after : Option (List ℕ) → List (List ℕ)
 tokens_after None = []
 tokens_after (Some rest) = tokens rest
@@ -116,7 +116,7 @@ pub data PlanStep : Type 0 where
   image : List ℕ → PlanStep
   -- a coupon of a slot and a value, for the last sketch
   coupon : ℕ → ℕ → PlanStep
-  -- the last sketches, of this number, joined within a bound of lg_k and at a width
+  -- the last sketches, of this number, merged under a bound of lg_k and at a width
   union : ℕ → ℕ → HllType → PlanStep
   -- the last sketch folded to an lg_k
   fold : ℕ → PlanStep
@@ -185,22 +185,22 @@ abbrev pub reading : List ℕ → Reading
 reading [] = Ok None
 reading (b ∷ more) = if b == 35 then Ok None else as_reading (read_tokens (tokens (b ∷ more)))
 
--- a fault of a line by itself
+-- a fault that a line can have by itself
 abbrev pub IsLineFault : Fault → Type 0
 IsLineFault e = (e ≡ Syntax) ⊎ ((e ≡ Range) ⊎ (e ≡ Hex))
 
--- the fault of a line is one of these three, and so none of memory, of a stream, of an image or of the stack
+-- the fault of a line is one of these three, so never one of memory, of a stream, of an image or of the stack
 abbrev pub FaultsOfLines : Type 0
 FaultsOfLines = (line : List ℕ) → IfErr (reading line) IsLineFault
 
 -- ---- memory
 
--- whether the first of the tokens is `image`: the reading of no other line takes memory
+-- whether the first of the tokens is `image`: reading any other line allocates nothing
 abbrev pub names_image : List (List ℕ) → Bool
 names_image [] = false
 names_image (first ∷ more) = bytes_eq first (codes "image")
 
--- ---- the answer
+-- ---- the output
 
 -- what is printed for the bytes of an image: lower-case hexadecimal and LF
 abbrev pub printed_line : List ℕ → List ℕ

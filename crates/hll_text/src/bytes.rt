@@ -1,14 +1,15 @@
 // SPDX-License-Identifier: Apache-2.0
-//! Finding a byte in a text.
+//! Finds a byte in a text.
 ghost use Rattle.std.specs.Prelude.{◌≡◌, ◌+◌, ◌≤◌, ◌==◌, length, map, position, MatchOption};
 ghost use Rattle.std.specs.Simd.Lanes.{chunk, mask_l};
 
 use std::simd::prelude::*;
 
-/// How many bytes are looked at together.
+/// The number of bytes that are examined at a time.
 const LANES: usize = 64;
 
-/// Returns where a byte first stands in a text, by lanes, and byte by byte where less than a block is left.
+/// Returns the index of the first byte with this value. Examines a block of bytes at a time, and the bytes after the last whole
+/// block one by one.
 pub(crate) fn first_of(byte: u8, text: &[u8]) -> Option<usize>
     ensures { result ≡ position (λ b. b == byte) text.now }
 {
@@ -25,14 +26,14 @@ pub(crate) fn first_of(byte: u8, text: &[u8]) -> Option<usize>
     }
 }
 
-/// Returns where a byte first stands in a text, byte by byte.
+/// Returns the index of the first byte with this value, examining bytes one by one.
 pub(crate) fn first_one_by_one(byte: u8, text: &[u8]) -> Option<usize>
     ensures { result ≡ position (λ b. b == byte) text.now }
 {
     text.iter().position(|b| *b == byte)
 }
 
-/// Returns a bit for each byte of the block from `at` on, set where it is the one that is sought.
+/// Returns a bit for each byte of the block from `at` on, set if the byte has this value.
 fn marks_at(byte: u8, text: &[u8], at: usize) -> u64
     requires { at + 64 ≤ length text.now }
     ensures { result ≡ mask_l (map (λ b. b == byte) (chunk at 64 text.now)) }

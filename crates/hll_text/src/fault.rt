@@ -1,15 +1,15 @@
 // SPDX-License-Identifier: Apache-2.0
-//! Why a plan is refused, and at which line.
+//! Why a plan is rejected, and at which line.
 ghost use Rattle.std.specs.Prelude.{◌≡◌};
 ghost use Rattle.hll_text.specs.declared.fault.Fault.TheVariants.{Memory};
 
 use hll_base::error::{Error, Reason};
 use std::alloc::{AllocError, AllocFailed};
 
-/// Why a plan is refused (docs/PLAN.md, "Refusals"). Each fault has a number and a printed form.
+/// Why a plan is rejected (docs/PLAN.md, "Refusals"). Each fault has a number and a printed form.
 #[derive(Clone, Copy, Debug, PartialEq, Eq)]
 pub enum Fault {
-    /// 1, `syntax`: the line is none of the forms of a line.
+    /// 1, `syntax`: the line has none of the forms of a line.
     Syntax,
     /// 2, `range`: a number is out of its range.
     Range,
@@ -19,7 +19,7 @@ pub enum Fault {
     Image(Reason),
     /// 5, `stack`: a step finds too few sketches, or not exactly one is left at the end.
     Stack,
-    /// 6, `memory`: memory was refused.
+    /// 6, `memory`: an allocation failed.
     Memory,
     /// 7, `read`: the reader failed.
     Read,
@@ -32,14 +32,14 @@ pub enum Fault {
 /// A fault, and the line where it was found (docs/PLAN.md, "Numbers of lines").
 #[derive(Clone, Copy, Debug, PartialEq, Eq)]
 pub struct MergeError {
-    /// The number of the line, from 1; 0 where the text is empty or no line of it ended.
+    /// The number of the line, from 1; 0 if the text is empty or no line of it ended.
     pub line: u64,
-    /// Why the plan is refused.
+    /// Why the plan is rejected.
     pub fault: Fault,
 }
 
 impl Fault {
-    /// Returns the refusal of a plan for this fault at this line.
+    /// Returns the error for this fault at this line.
     pub fn at(self, line: u64) -> MergeError
         ensures { result ≡ record { line = line; fault = self } }
     {
@@ -62,7 +62,7 @@ impl From<Error> for Fault {
     }
 }
 
-/// Refused memory is the fault `Memory`.
+/// A failed allocation is the fault `Memory`.
 impl From<AllocError> for Fault {
     ghost from_gives = { λ _ e. e ≡ Memory };
 
@@ -71,7 +71,7 @@ impl From<AllocError> for Fault {
     }
 }
 
-/// Refused memory is the fault `Memory`; the value that was not stored is dropped.
+/// A failed allocation is the fault `Memory`; the value that was not stored is dropped.
 impl<T: Drop> From<AllocFailed<T>> for Fault {
     ghost from_gives = { λ _ e. e ≡ Memory };
 

@@ -1,6 +1,6 @@
 // SPDX-License-Identifier: Apache-2.0
-//! The text of plans: its lines and their tokens, the steps that lines say, faults, and streams that are watched for
-//! failures (docs/ARCHITECTURE.md, "The crates").
+//! The text of plans: its lines and their tokens, the steps in its lines, faults, and streams that remember whether they failed
+//! (docs/ARCHITECTURE.md, "The crates").
 #![tactic(auto)]
 
 mod bytes;

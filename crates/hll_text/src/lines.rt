@@ -7,7 +7,7 @@ ghost use Rattle.hll_text.specs.Cuts.{LinesOfCuts};
 
 use crate::bytes::first_of;
 
-/// Returns where the first LF is.
+/// Returns the index of the first LF.
 pub fn line_end(text: &[u8]) -> Option<usize>
     ensures { result ≡ position (λ b. b == 10) text.now }
 {
@@ -24,7 +24,7 @@ pub fn without_return(line: &[u8]) -> &[u8]
     }
 }
 
-/// Returns the first line of a text that has an LF, without its end, and the text after it; `None` where no line has one.
+/// Returns the first line of a text that has an LF, without its end, and the text after it. Returns `None` if no line has one.
 ///
 /// A line ends in an LF, and one CR directly before that LF belongs to its end.
 pub fn next_ended(text: &[u8]) -> Option<(&[u8], &[u8])>
@@ -38,8 +38,8 @@ pub fn next_ended(text: &[u8]) -> Option<(&[u8], &[u8])>
     }
 }
 
-/// The law of texts that are cut: the lines that end in two pieces are those of the first, and then those of its open line
-/// with the second (docs/PLAN.md, "In pieces"). Does nothing.
+/// The law of texts that are cut: the lines that end in two pieces are those that end in the first piece, and then those that
+/// end in its open line followed by the second piece (docs/PLAN.md, "In pieces"). Does nothing at run time.
 pub fn lines_of_cuts()
     ensures { LinesOfCuts }
 {}

@@ -1,5 +1,5 @@
 // SPDX-License-Identifier: Apache-2.0
-//! Reading one line of a plan.
+//! Reads one line of a plan.
 ghost use Rattle.std.specs.Prelude.{◌/◌, ◌<◌, ◌≤◌, ◌≡◌, ◌⊎◌, [], ◌∷◌, length, take, true, codes, Ok, Err, OnOk, IfOk, IfErr, IfSome};
 ghost use Rattle.std.specs.Option.{option_copied};
 ghost use Rattle.hll_text.specs.declared.fault.Fault.TheVariants.{Hex, Memory};
@@ -15,12 +15,11 @@ use hll_base::bounds::{MAX_LG_K, MAX_VALUE, MIN_LG_K, SLOT_BITS};
 use hll_base::hll_type::HllType;
 use std::alloc::Allocator;
 
-/// Returns what a line of a plan, without its end, says: `None` for one that is skipped, else a step
-/// (docs/PLAN.md, "The text").
+/// Returns what a line of a plan, without its end, says: `None` if it is skipped, else a step (docs/PLAN.md, "The text").
 ///
-/// `Syntax` where the line has none of the forms of a line, else `Range` where a number is out of its range, or `Hex`
-/// where the token of an `image` line is not an even number of hexadecimal digits. Only an `image` line takes memory, for
-/// its bytes; `Memory` where that is refused.
+/// Fails with `Syntax` if the line has none of the forms of a line, else with `Range` if a number is out of its range, or `Hex`
+/// if the token of an `image` line is not an even number of hexadecimal digits. Only an `image` line allocates, for its bytes;
+/// it fails with `Memory` if that fails.
 pub fn read_step<A: Allocator>(alloc: A, line: &[u8]) -> Result<Option<Step<A>>, Fault>
     ensures reading { ReadsAs (tokens line.now) (reading line.now) result }
     ensures in_range { IfOk result (λ found. IfSome found (λ step. IsInRange (step_of step))) }
@@ -32,8 +31,8 @@ pub fn read_step<A: Allocator>(alloc: A, line: &[u8]) -> Result<Option<Step<A>>,
     }
 }
 
-/// Returns what a line of a plan, without its end, says, the digits of an image left as they are. `Syntax` and `Range` as
-/// `read_step`.
+/// Returns what a line of a plan, without its end, says. The digits of an image are left as they are. Fails with `Syntax` and
+/// `Range` as `read_step` does.
 pub fn read_line<A: Allocator>(line: &[u8]) -> Result<Line<'_, A>, Fault>
     ensures reading { line_reading_of result ≡ reading line.now }
     ensures image { IfOk result (λ said. IfImage said (names_image (tokens line.now) ≡ true)) }
@@ -52,7 +51,7 @@ pub fn read_line<A: Allocator>(line: &[u8]) -> Result<Line<'_, A>, Fault>
     read_tokens(first, rest)
 }
 
-/// Returns what a line that is not skipped says, from its first token and what follows the space after it.
+/// Returns what a line that is not skipped says. Gets its first token and what follows the space after it.
 fn read_tokens<'l, A: Allocator>(first: &[u8], rest: Option<&'l [u8]>) -> Result<Line<'l, A>, Fault>
     ensures reading { line_reading_of result ≡ as_reading (plan.read_tokens (first.now ∷ tokens_after (option_copied rest.entry))) }
     ensures image { IfOk result (λ said. IfImage said (names_image (first.now ∷ tokens_after (option_copied rest.entry)) ≡ true)) }
@@ -75,7 +74,7 @@ fn read_tokens<'l, A: Allocator>(first: &[u8], rest: Option<&'l [u8]>) -> Result
     }
 }
 
-/// Returns what a line says whose first token is `image`, from what follows the space after it.
+/// Returns what a line says whose first token is `image`. Gets what follows the space after it.
 fn image_line<'l, A: Allocator>(rest: Option<&'l [u8]>) -> Result<Line<'l, A>, Fault>
     ensures reading { line_reading_of result ≡ as_reading (plan.read_tokens (codes "image" ∷ tokens_after (option_copied rest.entry))) }
     ensures in_range { IfOk result (λ said. IfStep said (λ step. IsInRange (step_of step))) }
@@ -83,7 +82,7 @@ fn image_line<'l, A: Allocator>(rest: Option<&'l [u8]>) -> Result<Line<'l, A>, F
     Ok(Line::Image(one_token(rest)?))
 }
 
-/// Returns what a line says whose first token is `coupon`, from what follows the space after it.
+/// Returns what a line says whose first token is `coupon`. Gets what follows the space after it.
 fn coupon_line<'l, A: Allocator>(rest: Option<&[u8]>) -> Result<Line<'l, A>, Fault>
     ensures reading { line_reading_of result ≡ as_reading (plan.read_tokens (codes "coupon" ∷ tokens_after (option_copied rest.entry))) }
     ensures image { IfOk result (λ said. IfImage said ⊥) }
@@ -93,11 +92,11 @@ fn coupon_line<'l, A: Allocator>(rest: Option<&[u8]>) -> Result<Line<'l, A>, Fau
     Ok(Line::Step(coupon_step(slot, value)?))
 }
 
-/// Returns the bytes that the digits of an image stand for, in the memory of a buffer, whatever that held. So one buffer serves
-/// line after line.
+/// Returns the bytes that the digits of an image stand for, in the memory of a buffer, whatever that held. So one buffer can be
+/// used for one line after the other.
 ///
-/// `Hex` where the token is not an even number of hexadecimal digits. Takes memory only where there are more bytes than
-/// the buffer held; `Memory` where that is refused.
+/// Fails with `Hex` if the token is not an even number of hexadecimal digits. Allocates only if there are more bytes than the
+/// buffer has room for, and fails with `Memory` if that fails.
 pub fn decode_into<A: Allocator>(mut buffer: Vec<u8, A>, digits: &[u8]) -> Result<Vec<u8, A>, Fault>
     ensures ok { IfOk result (λ bytes. plan.image_step digits.now ≡ Ok (plan.image bytes.items)) }
     ensures err { IfErr result (λ e. (e ≡ Memory) ⊎ ((e ≡ Hex) × (plan.image_step digits.now ≡ Err Hex))) }
@@ -162,7 +161,7 @@ fn fold_step<A: Allocator>(lg_k: u32) -> Result<Step<A>, Fault>
     Ok(Step::Fold(lg_k_of(lg_k)?))
 }
 
-/// Returns an `lg_k`, which is 4 to 21. `Range` for any other number.
+/// Returns an `lg_k`, which is 4 to 21. Fails with `Range` for any other number.
 fn lg_k_of(number: u32) -> Result<u8, Fault>
     ensures { result ≡ lg_k number }
 {
@@ -173,7 +172,7 @@ fn lg_k_of(number: u32) -> Result<u8, Fault>
     }
 }
 
-/// Returns the width of 4, 6 or 8 bits. `Range` for any other number.
+/// Returns the width of 4, 6 or 8 bits. Fails with `Range` for any other number.
 fn width_of(bits: u32) -> Result<HllType, Fault>
     ensures { result ≡ width bits }
 {
@@ -186,7 +185,7 @@ fn width_of(bits: u32) -> Result<HllType, Fault>
 }
 
 /// The law of the faults of a line: they are `Syntax`, `Range` and `Hex` (docs/PLAN.md, "Refusals"). So `Memory`, `Read`,
-/// `Write`, `Image`, `Stack` and `Fold` come from elsewhere. Does nothing.
+/// `Write`, `Image`, `Stack` and `Fold` come from elsewhere. Does nothing at run time.
 pub fn faults_of_lines()
     ensures { FaultsOfLines }
 {}

@@ -1,5 +1,5 @@
 // SPDX-License-Identifier: Apache-2.0
-//! The line that is printed for a refusal.
+//! The line that is printed for an error.
 ghost use Rattle.std.specs.Prelude.{◌++◌, ◌∷◌, [], codes, decimal};
 ghost use Rattle.hll_text.specs.Refusal.{Sends, refusal_line, words_of};
 
@@ -8,8 +8,8 @@ use std::io;
 
 /// Writes `line L: `, the words of the fault and LF (docs/PLAN.md, "Refusals").
 ///
-/// `Write` where the writer returns an error, or takes no byte although there are some: then it took only a prefix of the
-/// line, which may be empty. Takes no memory, apart from what the stream's own writes take.
+/// Fails with `Write` if the writer returns an error, or accepts no byte although there are some. Then it accepted only a
+/// prefix of the line, which may be empty. Allocates nothing, apart from what the stream's own writes allocate.
 pub fn write_refusal<W: io::Write>(writer: &mut W, refusal: &MergeError) -> Result<(), Fault>
     ensures { Sends (W.contents writer.old) (W.contents writer.new) result (refusal_line refusal.now) }
 {
@@ -66,7 +66,7 @@ fn write_number<W: io::Write>(writer: &mut W, number: u64) -> Result<(), Fault>
     write_piece(writer, &digit)
 }
 
-/// Writes all bytes of a piece.
+/// Writes all the bytes.
 fn write_piece<W: io::Write>(writer: &mut W, piece: &[u8]) -> Result<(), Fault>
     ensures { Sends (W.contents writer.old) (W.contents writer.new) result piece.now }
 {

@@ -1,5 +1,5 @@
 // SPDX-License-Identifier: Apache-2.0
-//! Writing all of some bytes, or what is printed for them.
+//! Writes all of some bytes, or what is printed for them.
 ghost use Rattle.std.specs.Prelude.{◌≡◌, ◌≤◌, ◌<◌, ℕ, length, true, take, OnOk, IfErr};
 ghost use Rattle.std.specs.Io.KnownBytes.{Appends};
 ghost use Rattle.hex.specs.Hex.{encode_lower};
@@ -12,8 +12,8 @@ use std::io;
 
 /// Writes all the bytes.
 ///
-/// `Write` where the writer fails: then it took only a prefix of the bytes, which may be empty. Takes no memory, apart
-/// from what the stream's own writes take.
+/// Fails with `Write` if the writer fails. Then it accepted only a prefix of the bytes, which may be empty. Allocates nothing,
+/// apart from what the stream's own writes allocate.
 pub fn write_all<W: io::Write>(writer: &mut Watched<W>, bytes: &[u8]) -> Result<(), Fault>
     ensures ok { OnOk result (Appends (W.contents writer.old.inner) (W.contents writer.new.inner) bytes.now × (writer.new.failed ≡ writer.old.failed)) }
     ensures err { IfErr result (λ e. (e ≡ Write) × (writer.new.failed ≡ true)
@@ -26,13 +26,13 @@ pub fn write_all<W: io::Write>(writer: &mut Watched<W>, bytes: &[u8]) -> Result<
     Ok(())
 }
 
-/// How many bytes are written as digits at once.
+/// The number of bytes that are written as digits at once.
 const PIECE: usize = 16384;
 
 /// Writes bytes as lower-case hexadecimal and LF, piece by piece through a buffer of its own.
 ///
-/// `Write` where the writer fails: then it took only a prefix of the line, which may be empty. Takes no memory, apart
-/// from what the stream's own writes take.
+/// Fails with `Write` if the writer fails. Then it accepted only a prefix of the line, which may be empty. Allocates nothing,
+/// apart from what the stream's own writes allocate.
 pub fn write_hex_line<W: io::Write>(writer: &mut Watched<W>, bytes: &[u8]) -> Result<(), Fault>
     ensures ok { OnOk result (Appends (W.contents writer.old.inner) (W.contents writer.new.inner) (printed_line bytes.now) × (writer.new.failed ≡ writer.old.failed)) }
     ensures err { IfErr result (λ e. (e ≡ Write) × (writer.new.failed ≡ true)
@@ -48,7 +48,7 @@ pub fn write_hex_line<W: io::Write>(writer: &mut Watched<W>, bytes: &[u8]) -> Re
     write_all(writer, b"\n")
 }
 
-/// Writes at most a piece of bytes as digits, through a buffer whose bytes are lost.
+/// Writes bytes, at most `PIECE`, as digits, through a buffer whose old content is lost.
 fn write_digits<W: io::Write>(
     writer: &mut Watched<W>,
     buffer: &mut [u8; 2 * PIECE],

@@ -24,8 +24,8 @@ pub(crate) fn split_token(line: &[u8]) -> (&[u8], Option<&[u8]>)
     }
 }
 
-/// Returns the number after a space, which ends at the next space or with the line, and what follows that space. `Syntax` where
-/// there is no space, or no number after it.
+/// Returns the number after a space, which ends at the next space or with the line, and what follows that space. Fails with
+/// `Syntax` if there is no space, or no number after it.
 fn next_number(rest: Option<&[u8]>) -> Result<(u32, Option<&[u8]>), Fault>
     ensures { MatchResult result
         (λ r. (token : List ℕ) × (tokens_after (option_copied rest.entry) ≡ token ∷ tokens_after (option_copied r.1)) × (number token ≡ Ok r.0))
@@ -46,8 +46,8 @@ fn next_number(rest: Option<&[u8]>) -> Result<(u32, Option<&[u8]>), Fault>
     }
 }
 
-/// Returns the value of the digits that a text begins with, at most eight, and how many these are: by lanes, and digit by digit
-/// where fewer than eight bytes are left.
+/// Returns the value of the digits that a text begins with, at most eight, and their number. Eight bytes are examined at a
+/// time; if there are fewer, digit by digit.
 fn leading_number(text: &[u8]) -> (u32, usize)
     ensures digits { list_all is_ascii_digit (take result.1 text.now) ≡ true }
     ensures value { result.0 ≡ decimal_value (take result.1 text.now) }
@@ -62,7 +62,7 @@ fn leading_number(text: &[u8]) -> (u32, usize)
     (value_of_eight(text, count), count)
 }
 
-/// Returns how many of the first eight bytes of a text are digits, up to the first that is none.
+/// Returns how many of the first eight bytes of a text are digits, before the first that is not one.
 fn digits_of_eight(text: &[u8]) -> usize
     requires { 8 ≤ length text.now }
     ensures digits { list_all is_ascii_digit (take result text.now) ≡ true }
@@ -77,7 +77,7 @@ fn digits_of_eight(text: &[u8]) -> usize
     }
 }
 
-/// Returns a bit for each of the first eight bytes of a text, set where it is no digit.
+/// Returns a bit for each of the first eight bytes of a text, set if it is not a digit.
 fn other_marks(text: &[u8]) -> u64
     requires { 8 ≤ length text.now }
     ensures { result ≡ mask_l (map (λ b. not (is_ascii_digit b)) (chunk 0 8 text.now)) }
@@ -86,13 +86,13 @@ fn other_marks(text: &[u8]) -> u64
     from_zero.simd_gt(u8x8::splat(9)).to_bitmask()
 }
 
-/// The powers of ten that up to eight digits stand for, and zeros for the bytes after these.
+/// The powers of ten for up to eight digits, and zeros for the bytes after them.
 const POWERS: [u32; 16] = [
     10_000_000, 1_000_000, 100_000, 10_000, 1000, 100, 10, 1, 0, 0, 0, 0, 0, 0, 0, 0,
 ];
 
-/// Returns the value of the first bytes of a text, at most eight, as digits: all eight by lanes, each by its power of ten or by
-/// zero.
+/// Returns the value of the first bytes of a text, at most eight, as digits: all eight at a time, each multiplied by its power
+/// of ten or by zero.
 fn value_of_eight(text: &[u8], count: usize) -> u32
     requires long { 8 ≤ length text.now }
     requires few { count ≤ 8 }
@@ -103,7 +103,7 @@ fn value_of_eight(text: &[u8], count: usize) -> u32
     digits.cast::<u32>().strict_mul(powers).strict_reduce_sum()
 }
 
-/// Returns the value of the digits that a text of fewer than eight bytes begins with, and how many these are.
+/// Returns the value of the digits that a text of fewer than eight bytes begins with, and their number.
 fn short_number(text: &[u8]) -> (u32, usize)
     requires { length text.now < 8 }
     ensures digits { list_all is_ascii_digit (take result.1 text.now) ≡ true }
@@ -124,7 +124,7 @@ fn short_number(text: &[u8]) -> (u32, usize)
     (value, count)
 }
 
-/// Returns the number after a space. `Syntax` where there is not just one token, which is a number.
+/// Returns the number after a space. Fails with `Syntax` if there is not exactly one token, or it is not a number.
 pub(crate) fn one_number(rest: Option<&[u8]>) -> Result<u32, Fault>
     ensures { result ≡ plan.one_number (tokens_after (option_copied rest.entry)) }
 {
@@ -135,7 +135,7 @@ pub(crate) fn one_number(rest: Option<&[u8]>) -> Result<u32, Fault>
     }
 }
 
-/// Returns the two numbers after a space. `Syntax` where there are not just two tokens, both of them numbers.
+/// Returns the two numbers after a space. Fails with `Syntax` if there are not exactly two tokens, both of them numbers.
 pub(crate) fn two_numbers(rest: Option<&[u8]>) -> Result<(u32, u32), Fault>
     ensures { result ≡ plan.two_numbers (tokens_after (option_copied rest.entry)) }
 {
@@ -147,7 +147,7 @@ pub(crate) fn two_numbers(rest: Option<&[u8]>) -> Result<(u32, u32), Fault>
     }
 }
 
-/// Returns the three numbers after a space. `Syntax` where there are not just three tokens, all of them numbers.
+/// Returns the three numbers after a space. Fails with `Syntax` if there are not exactly three tokens, all of them numbers.
 pub(crate) fn three_numbers(rest: Option<&[u8]>) -> Result<(u32, u32, u32), Fault>
     ensures { result ≡ plan.three_numbers (tokens_after (option_copied rest.entry)) }
 {
@@ -156,8 +156,8 @@ pub(crate) fn three_numbers(rest: Option<&[u8]>) -> Result<(u32, u32, u32), Faul
     Ok((first, second, third))
 }
 
-/// Returns the token after a space, sought whole, since it may be long. `Syntax` where there is not just one token, or it is
-/// empty.
+/// Returns the token after a space. Searches for its end in blocks, since it may be long. Fails with `Syntax` if there is not
+/// exactly one token, or it is empty.
 pub(crate) fn one_token(rest: Option<&[u8]>) -> Result<&[u8], Fault>
     ensures { token_of result ≡ plan.one_token (tokens_after (option_copied rest.entry)) }
 {

@@ -10,8 +10,8 @@ use std::marker::Model;
 
 /// A reader or a writer that remembers whether it has failed (docs/PLAN.md, "Streams").
 ///
-/// Contracts see the stream inside, whether it has failed, and how many reads were made. No call takes memory, apart
-/// from what the stream's own call takes.
+/// Contracts see the stream inside, whether it has failed, and the number of reads. No call allocates, apart from what the
+/// stream's own call allocates.
 #[derive(Drop)]
 pub struct Watched<S> {
     inner: S,
@@ -58,9 +58,9 @@ impl<S> Watched<S> {
 }
 
 impl<R: Read> Watched<R> {
-    /// Reads from the stream once, into the front of the buffer, and returns how many bytes came; 0 at the end.
+    /// Reads from the stream once, into the first bytes of the buffer, and returns the number of bytes; 0 at the end.
     ///
-    /// `Read` where the stream returns an error, or, without a call of the stream, once 2^64 - 1 reads were made. Then
+    /// Fails with `Read` if the stream returns an error, or, without a call of the stream, once 2^64 - 1 reads were made. Then
     /// the stream counts as failed, and the buffer may hold any bytes.
     pub fn read(&mut self, buffer: &mut [u8]) -> Result<usize, Fault>
         ensures bound { IfOk result (λ n. n ≤ length buffer.new) }
@@ -87,10 +87,10 @@ impl<R: Read> Watched<R> {
 }
 
 impl<W: Write> Watched<W> {
-    /// Writes to the stream once, and returns how many of the bytes it took, from the first on.
+    /// Writes to the stream once, and returns how many of the bytes it accepted, from the first on.
     ///
-    /// `Write` where the stream returns an error, or takes no byte although there are some. Then the stream counts as
-    /// failed, and it took none of these bytes.
+    /// Fails with `Write` if the stream returns an error, or accepts no byte although there are some. Then the stream counts as
+    /// failed, and it accepted none of these bytes.
     pub fn write(&mut self, bytes: &[u8]) -> Result<usize, Fault>
         ensures bound { IfOk result (λ n. n ≤ length bytes.now) }
         ensures progress { IfOk result (λ n. 0 < length bytes.now → 0 < n) }
