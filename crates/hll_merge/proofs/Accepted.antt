@@ -34,7 +34,7 @@ append_parts (a ∷ f) (b ∷ g) x y n e =
     let rest = append_parts f g x y n tail in
     ((λ i. head i ∷ rest.0 i), rest.1)
 
--- the last plan and those before it
+-- the last plan and the plans before it
 last_parts : (f g : List Plan) (t u : Plan) → f ++ t ∷ [] ≡ g ++ u ∷ [] → (f ≡ g) × (t ≡ u)
 last_parts f g t u e =
     let parts = append_parts f g (t ∷ []) (u ∷ []) refl e in
@@ -118,7 +118,7 @@ module _ {L : Type 0} (reads : L → Reading) where
   one_run ts (l ∷ ls) us vs h g =
       one_run h.0 ls us vs h.2 (subst (λ zs. Runs reads zs ls vs) (sym (one_line ts l h.0 g.0 h.1 g.1)) g.2)
 
-  -- lines that run have none at fault
+  -- lines that run have no line at fault
   pub runs_or_faults : (ts : List Plan) (n : ℕ) (all : List L) (us : List Plan) (e : MergeError) → Runs reads ts all us → FaultsFrom reads ts n all e → ⊥
   runs_or_faults ts n all us e h f = of ts f.front (subst (λ ls. Runs reads ts ls us) f.is h) f.runs
     where
@@ -126,7 +126,7 @@ module _ {L : Type 0} (reads : L → Reading) where
       of ts [] h g = line_or_fault ts f.line h.0 e.fault h.1 (subst (λ zs. IsFaultOfLine reads zs f.line e.fault) g f.fault)
       of ts (l ∷ front) h g = of h.0 front h.2 (subst (λ zs. Runs reads zs front f.stack) (sym (one_line ts l h.0 g.0 h.1 g.1)) g.2)
 
-  -- the first line at fault is one, and so is its fault
+  -- there is only one first line at fault, with one fault
   pub one_first_fault_from : (ts : List Plan) (n : ℕ) (all : List L) (d e : MergeError) → FaultsFrom reads ts n all d → FaultsFrom reads ts n all e → d ≡ e
   one_first_fault_from ts n all d e f g =
       let same = of ts f.front g.front (sym f.is ∙ g.is) f.runs g.runs in
@@ -187,7 +187,7 @@ accepted_is_faultless = record {
   of_steps = accepted_or_faulty itself;
 }
 
--- ---- whose faults they are
+-- ---- faults of the text itself
 
 own-text : (e : Fault) → IsLineFault e → IsOwnFault e
 own-text e (inl h) = record { not_memory = λ z. cc; not_read = λ z. cc; not_write = λ z. cc; of_data = λ r z. cc }

@@ -1,5 +1,5 @@
 -- SPDX-License-Identifier: Apache-2.0
--- Over canonical images every outcome is canonical, and a union has the value of its children.
+-- Over canonical images every outcome is canonical, and the outcome of a union is the `join_value` of its children's.
 use Rattle.std.proofs.Common.{ap, sym, subst, [], ◌∷◌}
 use Rattle.std.specs.List.{list_any, AllByRecursion}
 use Rattle.std.specs.Ordering.{nat_cmp}

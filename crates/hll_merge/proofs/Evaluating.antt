@@ -46,7 +46,7 @@ module _ {X Y : Type 0} (f : X → Y) where
 pub runs_none : (xs : List SketchLayout) → xs ≡ [] → RunsSteps [] xs 0
 runs_none xs e = subst (λ ys. RunsSteps [] ys 0) (sym e) (record { plans = []; runs = refl; all_represent = tt; well_formed = λ i d l. absurd (omega arith); counted = let none : 0 ≡ line_number 0 = omega arith in none })
 
--- one step more
+-- one more step
 pub runs_more : (all : List PlanStep) (step : PlanStep) (xs ys : List SketchLayout) (n m : ℕ) → RunsSteps all xs n → IsWellFormed step → StackCarries xs step ys → m ≡ line_number (n + 1)
     → RunsSteps (all ++ step ∷ []) ys m
 runs_more all step xs ys n m r w carries e =
@@ -59,7 +59,7 @@ runs_more all step xs ys n m r w carries e =
       counted = let count : m ≡ line_number (length (all ++ step ∷ [])) = omega (arith, e, r.counted, length-append all (step ∷ [])) in count;
     }
 
--- a step that is refused
+-- a step that fails
 pub stops_at : (front : List PlanStep) (step : PlanStep) (rest all : List PlanStep) (xs : List SketchLayout) (n m : ℕ) (e : Fault) → all ≡ front ++ step ∷ rest
     → RunsSteps front xs n → StackRefuses xs step e → m ≡ line_number (n + 1)
     → let refusal : MergeError = record { line = m; fault = e } in (e ≡ Memory) ⊎ FaultsAtLine itself all refusal

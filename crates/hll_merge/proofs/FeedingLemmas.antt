@@ -16,7 +16,7 @@ use Rattle.hll_merge.specs.Feeding.{Feed, TakesPiece, RefusesPiece, Finishes, Re
 use Rattle.hll_merge.proofs.Headline.{text_holds}
 use Rattle.hll_merge.proofs.StackLemmas.{AllRepresent-one, length-AllRepresent}
 
--- ---- lines in turn, and then more
+-- ---- lines in turn, and then more lines
 
 pub Runs-append : (ts us vs : List Plan) (ls ms : List (List ℕ)) → Runs reading ts ls us → Runs reading us ms vs → Runs reading ts (ls ++ ms) vs
 Runs-append ts us vs [] ms h g = subst (λ xs. Runs reading xs ms vs) h g
@@ -36,7 +36,7 @@ FaultsFrom-after ts us n m ls ms e h k f = record {
   at = let line : e.line ≡ line_number (n + length (ls ++ f.front) + 1) = omega (arith, k, f.at, length-append ls f.front) in line;
 }
 
--- a fault of lines stays that when more follow
+-- a fault of lines is still one when more lines follow
 pub FaultsFrom-before : (ts : List Plan) (n : ℕ) (ls ms : List (List ℕ)) (e : MergeError) → FaultsFrom reading ts n ls e → FaultsFrom reading ts n (ls ++ ms) e
 FaultsFrom-before ts n ls ms e f = record {
   front = f.front;
@@ -51,7 +51,7 @@ FaultsFrom-before ts n ls ms e f = record {
 
 -- ---- streams
 
--- the lines that ended in a text and a piece are those of the text, and those of what was pending and the piece
+-- the lines that end in a text and a piece are those of the text, and then those of the pending bytes and the piece
 lines-more : (text piece pending : List ℕ) → pending ≡ open_line text → ended_lines (text ++ piece) ≡ ended_lines text ++ ended_lines (pending ++ piece)
 lines-more text piece pending e = ended_lines-append text piece ∙ ap (λ bytes. ended_lines text ++ ended_lines (bytes ++ piece)) (sym e)
 
@@ -102,7 +102,7 @@ pub one-left : (xs : List ℕ) → nat_eq (length xs) 0 ≡ false → line_of_re
 one-left [] e = absurd (cc)
 one-left (x ∷ xs) e = refl
 
--- a feed that went on, and what of its text is left
+-- a feed that did not fail, and what of its text is left
 pub record Gone (text : List ℕ) (s : Feed) : Type 0 where
   pub count : s.count ≡ line_number (length (ended_lines text))
   pub stack : List Plan
@@ -175,7 +175,7 @@ finishes-stream text s x h none f =
     let accepted : Accepts text t.0 = subst (Runs reading [] (lines text)) t.1 whole in
     record { plan = t.0; accepted = accepted; holds = text_holds text t.0 accepted; value = t.2 }
 
--- what refuses the end is the first fault of the text
+-- the fault at the end is the first fault of the text
 pub refuses_end-stream : (text : List ℕ) (s : Feed) (e : MergeError) → IsFedBy text s → s.fault ≡ None → RefusesEnd s e → StopsText text e
 refuses_end-stream text s e h none r =
     let g : Gone text s = gone text s h none in

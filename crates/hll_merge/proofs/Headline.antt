@@ -1,5 +1,5 @@
 -- SPDX-License-Identifier: Apache-2.0
--- The plan of an accepted text or list of steps is legal, and so its outcome is.
+-- The plan of an accepted text or list of steps is legal, and so is its outcome.
 use Rattle.std.proofs.Common.{◌≡◌, All, ℕ, zero, suc, ◌^◌, ◌<◌, ◌≤◌, inl, List, [], ◌∷◌, ◌++◌, length, get_or, take, Some, Ok, refl, sym, subst, arith}
 use Rattle.std.specs.Str.Lines.{lines}
 use Rattle.std.specs.FinSet.{empty, from_list, len, len-empty}
@@ -61,7 +61,7 @@ pair_right s v low least most =
     let is : value_of (pair s v) ≡ v = div-mul-add v (2 ^ 26) s low in
     record { valued = omega arith; small = omega arith }
 
--- ---- the stack stays legal
+-- ---- the plans of the stack are still legal
 
 abbrev AreLegal : List Plan → Type 0
 AreLegal [] = Unit {0}
@@ -114,7 +114,7 @@ module _ {L : Type 0} (reads : L → Reading) where
   line_legal ts l us r h (skipped says e) = subst AreLegal (sym e) h
   line_legal ts l us r h (taken step says t) = carried_legal ts step us (r step says) h t
 
-  -- whatever way lines are read, they leave legal plans
+  -- however lines are read, they leave legal plans
   run_legal : (ts : List Plan) (ls : List L) (us : List Plan) → All SaysWellFormed ls → AreLegal ts → Runs reads ts ls us → AreLegal us
   run_legal ts [] us r h g = subst AreLegal (sym g) h
   run_legal ts (l ∷ ls) us r h g = run_legal g.0 ls us (All-tail SaysWellFormed l ls r) (line_legal ts l g.0 (r 0 l (omega arith)) h g.1) g.2

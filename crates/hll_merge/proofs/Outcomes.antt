@@ -1,5 +1,5 @@
 -- SPDX-License-Identifier: Apache-2.0
--- The outcome of a plan has the effective lg_k, and means its inputs.
+-- The outcome of a plan has the effective lg_k, and the meaning of its inputs.
 use Rattle.std.proofs.Common.{◌≡◌, ℕ, ◌^◌, ◌<◌, ◌≤◌, true, false, cond, not, ◌&&◌, nat_eq, eqb, [], ◌∷◌, length, get_or, refl, sym, ap, subst, ◌∙◌, arith, inl, inr}
 use Rattle.std.specs.Prelude.{min}
 use Rattle.std.specs.Ordering.{nat_cmp}
@@ -40,9 +40,9 @@ mutual
   good_each Q no_plans m g P h leaves = rw (union_none P) h
   good_each Q (more_plans t ts) m g P h leaves = rw (← union_assoc P (inputs t) (inputs_of_each ts)) (good_each Q ts m (merge m g (outcome t)) (union P (inputs t)) (MeansPairs-merge m g (outcome t) P (inputs t) h (good Q t leaves.0)) leaves.1)
 
--- ---- register images keep the lg_k low
+-- ---- register images bound the lg_k
 
--- in registers that are not all 0
+-- a sketch in registers that are not all 0
 record HasSome (x : Sketch) : Type 0 where
   inside : in_registers x.content ≡ true
   some : is_empty x ≡ false
@@ -65,7 +65,7 @@ none_empty k (registers R s) P m e = eq-eqb (len (pairs R)) 0 (ap len (no_member
     let zero' : greatest (value_at k i) (items P) ≤ 0 = bounded (value_at k i) 0 P (λ c t. absurd (true≢false (sym t ∙ ap (λ S. contains S c) e ∙ contains-empty nat_cmp c))) in
     omega (arith, found.1.positive))) ∙ len-empty nat_cmp)
 
--- what has pairs and gets more has pairs
+-- a sketch that has pairs still has pairs when more are added
 still_some : (x y : Sketch) (P Q : Pairs) → MeansPairs x P → MeansPairs y Q → (Q ≡ empty → P ≡ empty) → is_empty x ≡ false → is_empty y ≡ false
 still_some x y P Q g h up some = elim (cases_Bool (is_empty y)) [
   | inl t ↦ absurd (true≢false (sym (none_empty x.lg_k x.content P g.meaning (up (nothing y.lg_k y.content Q h.small h.are h.meaning t))) ∙ some))
@@ -92,7 +92,7 @@ HasSome-folded x e P g g' h = record {
   some = still_some x (folded x e) P P g g' (λ z. z) h.some;
 }
 
--- a gadget with registers keeps them
+-- a gadget with registers still has registers
 HasSome-merge : (m : ℕ) (g x : Sketch) (P Q : Pairs) → MeansPairs g P → MeansPairs x Q → HasSome g → HasSome (merge m g x)
 HasSome-merge m g x P Q good other h = record {
   inside = elim (cases_Bool (is_empty x)) [
@@ -108,7 +108,7 @@ HasSome-merge m g x P Q good other h = record {
         let x : Sketch = record { lg_k = l; width = w; content = coupons S p } in
         rw (cond-false (is_empty g && nat_eq g.lg_k l) (record g { content = x.content }) (add g S) (and_left (is_empty g) (nat_eq g.lg_k l) h.some)) (inside-content_with g.lg_k g.content S h.inside)
 
--- a sketch with registers gives them to the gadget
+-- a sketch with registers gives the gadget registers
 HasSome-from : (m : ℕ) (g x : Sketch) (P Q : Pairs) → MeansPairs g P → MeansPairs x Q → HasSome x → HasSome (merge m g x)
 HasSome-from m g x P Q good other h = record {
   inside = rw (merge_of_some m g x h.some) (of x.lg_k x.width x.content h.inside);
@@ -126,7 +126,7 @@ least_of_each_le (more_plans t ts) k =
     let le : l ≤ k = elim (has_nonzero_registers (outcome t)) as (λ b. cond b (min k (effective_lg_k t)) k ≤ k) [ true ↦ omega arith | false ↦ omega arith ] in
     omega (arith, least_of_each_le ts l)
 
--- registers after the children, where the gadget or one of them has some
+-- the union has registers after its children, if the gadget or one of them has registers
 record Lowest (x : Sketch) (t : Plan) : Type 0 where
   pub some : HasSome (outcome t)
   pub low : effective_lg_k t ≤ x.lg_k

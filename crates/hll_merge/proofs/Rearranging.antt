@@ -41,7 +41,7 @@ outcomes-both : (ts us : Plans) → outcomes (both_plans ts us) ≡ outcomes ts 
 outcomes-both no_plans us = refl
 outcomes-both (more_plans t ts) us = ap (λ xs. outcome t ∷ xs) (outcomes-both ts us)
 
--- the join of the children
+-- the union of the children
 union_is : (m : ℕ) (w : HllType) (ts : Plans) → Leaves IsCanonicalCleared (union_plan m w ts) → outcome (union_plan m w ts) ≡ join_value m w (outcomes ts)
 union_is m w ts h = merge_at_width m w (outcomes ts) h.0.high (fits ts h.1)
 

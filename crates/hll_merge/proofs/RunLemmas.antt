@@ -1,5 +1,5 @@
 -- SPDX-License-Identifier: Apache-2.0
--- Lemmas on the answer of a run.
+-- Lemmas on the result of a run.
 use Rattle.std.proofs.Common.{◌≡◌, ◌⊎◌, ℕ, Option, None, Some, List, [], ◌++◌, inl, refl, sym, ◌∙◌, ap, subst, append_assoc, Result, Ok, Err}
 use Rattle.std.specs.Result.{IsErrAnd, MatchResult}
 use Rattle.std.proofs.lemmas.List.{append-nil}
@@ -26,25 +26,25 @@ answer text line bytes x o written shown = record {
   shown = shown;
 }
 
--- a reader at its end told all that it had
+-- a reader at its end has returned all that it had
 pub all_of : (before after : Option (List ℕ)) (text : List ℕ) → Consumes before after text → IsAtEnd after → IsAllOf before text
 all_of None after text h e = tt
 all_of (Some xs) None text h e = absurd h
 all_of (Some xs) (Some ys) text h e = sym (h ∙ ap (λ zs. text ++ zs) e ∙ append-nil text)
 
--- a refusal that is passed on
+-- an error that is passed on
 pub refused_with : {T E : Type 0} (P : T → Type 0) (Q : E → Type 0) (r : Result T E) (e : E) → IsErrAnd r (λ f. f ≡ e) → Q e → MatchResult r P Q
 refused_with P Q (Ok x) e h q = absurd h
 refused_with P Q (Err f) e h q = subst Q (sym h) q
 
--- the fault that stays is that of the text
+-- the fault that is kept is that of the text
 pub fault_of_fed : (text : List ℕ) (s : Feed) (e : MergeError) → IsFedBy text s → s.fault ≡ Some e → (e.fault ≡ Memory) ⊎ FaultsAtLine reading (ended_lines text) e
 fault_of_fed text s e (going f p n ts r h) some = absurd (let same : None ≡ Some e = sym f ∙ some in cc)
 fault_of_fed text s e (stopped d f p h) some =
     let same : d ≡ e = let both : Some d ≡ Some e = sym f ∙ some in cc in
     subst (λ x. (x.fault ≡ Memory) ⊎ FaultsAtLine reading (ended_lines text) x) same h
 
--- a front of the text was taken
+-- a prefix of the text was read
 pub record Whole (before : Option (List ℕ)) (taken : List ℕ) : Type 0 where
   pub text : List ℕ
   pub more : List ℕ
@@ -56,7 +56,7 @@ whole_of None after taken h = record { text = taken; more = []; is = sym (append
 whole_of (Some xs) None taken h = elim h [ ]
 whole_of (Some xs) (Some ys) taken h = record { text = xs; more = ys; is = h; all = refl }
 
--- a fault of the lines that ended in a front of a text is the first of the text
+-- a fault of the lines that end in a prefix of a text is the first fault of the text
 pub first_of_front : (text taken more : List ℕ) (e : MergeError) → text ≡ taken ++ more → FaultsAtLine reading (ended_lines taken) e → IsFirstFault text e
 first_of_front text taken more e is f =
     let after : List (List ℕ) = ended_lines (open_line taken ++ more) in

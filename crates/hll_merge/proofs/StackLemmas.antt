@@ -44,7 +44,7 @@ AllRepresent-push [] (u ∷ ts) x t h s = absurd h
 AllRepresent-push (y ∷ xs) [] x t h s = absurd h
 AllRepresent-push (y ∷ xs) (u ∷ ts) x t h s = (h.0, AllRepresent-push xs ts x t h.1 s)
 
--- what the last of a stack stands for
+-- the plan of the last sketch of a stack
 record Last (front : List SketchLayout) (last : SketchLayout) (ts : List Plan) : Type 0 where
   below : List Plan
   top : Plan
@@ -127,7 +127,7 @@ replaces_last IsFor xs n x y e at h = record {
   gives = set_last xs n y e;
 }
 
--- the last of one is the only one
+-- the last sketch of a stack of one is the only one
 pub only : (xs ys : List SketchLayout) (o : Option SketchLayout) → xs ≡ ys ++ option_to_list o → length xs ≡ 1 → IfSome o (λ x. xs ≡ x ∷ [])
 only xs ys None e one = tt
 only xs [] (Some x) e one = e
@@ -137,7 +137,7 @@ pub some_is_not_none : (o : Option SketchLayout) (Q : Type 0) → IsSome o → I
 some_is_not_none None Q some = absurd (cc)
 some_is_not_none (Some x) Q some = tt
 
--- a list with one more, which takes the place of those from an index on
+-- a list in which one more element replaces those from an index on
 pub replaced_from : (xs : List SketchLayout) (at : ℕ) (y : SketchLayout) → at ≤ length xs → take (at + 1) (swap (xs ++ y ∷ []) at (length xs)) ≡ take at xs ++ y ∷ []
 replaced_from xs at y h =
     let n : ℕ = length xs in
@@ -186,7 +186,7 @@ above-plans xs ts e h a =
     let l : Last a.front a.last ts = AllRepresent-last a.front a.last ts (subst (λ zs. AllRepresent zs ts) a.is h) in
     (l.below, l.top, l.is, subst (λ k. k < e) (ap (λ (z : Sketch). z.lg_k) l.one ∙ lg_k-outcome l.top) a.below)
 
--- a fault of data is told as one of the image
+-- a fault of data is reported as one of the image
 fault_of-data : (r : Reason) → kind_of r ≡ InvalidData → fault_of r ≡ faults.Image r
 fault_of-data reasons.Truncated h = refl
 fault_of-data reasons.Family h = refl
@@ -225,7 +225,7 @@ carries-union xs ys n at m w enough is union_of_batch = λ ts h.
           (union_of_batch.value ∙ ap (λ zs. let z : Sketch = record (merge_all m (empty_union m) zs) { width = w } in z) all) union_of_batch.gives,
     )
 
--- the width of a gadget stays
+-- the width of a gadget is unchanged
 width-merge : (m : ℕ) (g x : Sketch) → (merge m g x).width ≡ g.width
 width-merge m g x = elim (cases_Bool (is_empty x)) [
   | inl t ↦ ap (λ (y : Sketch). y.width) (cond-true (is_empty x) g (merge_content m g x x.content) t)
@@ -244,7 +244,7 @@ width-merge_all : (m : ℕ) (g : Sketch) (xs : List Sketch) → (merge_all m g x
 width-merge_all m g [] = refl
 width-merge_all m g (x ∷ xs) = width-merge_all m (merge m g x) xs ∙ width-merge m g x
 
--- a union in the place of the first sketch, those after it dropped
+-- a union that replaces the first sketch and those after it
 pub merged_in_first : (xs ys : List SketchLayout) (at m : ℕ) (w : HllType) (x : SketchLayout) → w ≡ Hll8 → take (at + 1) ys ≡ take at xs ++ x ∷ [] →
     sketch_of x ≡ merge_all m (empty_union m) (map sketch_of (drop at xs)) → MergesTail at m w xs (take (at + 1) ys)
 merged_in_first xs ys at m w x eight gives value = record {
@@ -269,7 +269,7 @@ module _ (reads : List ℕ → Reading) (old : List SketchLayout) (line : List �
     pub faults-step : (e : Fault) → StackRefuses old step e → StackFaults reads old line e
     faults-step e refuses = λ ts h. elim (refuses ts h) [ inl m ↦ inl m | inr f ↦ inr (refused step read f) ]
 
-  -- a line that is read as another is, in another way
+  -- a line that is read as another one is read in another way
   module _ (other_reads : List ℕ → Reading) (other : List ℕ) (alike : reads line ≡ other_reads other) where
     of_other : (ts us : List Plan) → Gives other_reads ts other us → Gives reads ts line us
     of_other ts us (skipped e is) = skipped (alike ∙ e) is

@@ -1,5 +1,5 @@
 -- SPDX-License-Identifier: Apache-2.0
--- Registers of eight bits that are raised, as sketches.
+-- 8-bit registers that are raised, as sketches.
 use Rattle.std.proofs.Common.{◌≡◌, ℕ, List, None, sym, ap, ◌∙◌}
 use Rattle.hll_base.specs.declared.hll_type.HllType.TheVariants.{Hll8}
 use Rattle.hll_registers.specs.Store.{Stored}
@@ -8,7 +8,7 @@ use Rattle.hll_sketch.specs.Layout.{SketchLayout, array, sketch_of}
 use Rattle.hll_sketch.specs.Union.{sketch_of_registers}
 use Rattle.hll_sketch.specs.Value.{registers}
 
--- a sketch in registers of eight bits
+-- a sketch in 8-bit registers
 abbrev pub in_bytes : ℕ → Stored → SketchLayout
 in_bytes k a = record { lg_k = k; layout = array Hll8 a None }
 

@@ -23,7 +23,7 @@ use Rattle.hll_sketch.specs.Joined.{least_lg_k}
 use Rattle.hll_coupons.proofs.Unions.{union_assoc, len_union_le, from_list_cons, union_none}
 use Rattle.hll_sketch.proofs.Stages.{stage_again, stage_none}
 
--- what both join leave alone, the first leaves alone
+-- if the maximum with both lists changes nothing, the maximum with the first changes nothing
 first_same : (R F G : List ℕ) → R ≡ join (join R F) G → R ≡ join R F
 first_same R F G e =
     e ∙ join_assoc R F G ∙ ap (join R) (join_comm F G ∙ ap (join G) (sym (join_itself F)) ∙ sym (join_assoc G F F))
@@ -38,7 +38,7 @@ states R F G s = elim (cases_Bool (pointwise nat_eq R (join R F))) [
       ∙ sym (state_after-other R (join (join R F) G) s (λ e. let t : pointwise nat_eq R (join R F) ≡ true = (same_decides R (join R F)).1 (first_same R F G e) in cc))
 ]
 
--- registers joined with others, and their state
+-- the maximum of registers and others, with their estimate state
 abbrev update_with_pairs : List ℕ → List ℕ → EstimateState → Content
 update_with_pairs R Q state = registers (join R Q) (state_after R (join R Q) state)
 
@@ -91,7 +91,7 @@ lg_k-merge m g x = of x.lg_k x.width x.content
     of l w (coupons S p) = choose (eqb (len S) 0) (is_empty g && nat_eq g.lg_k l) (record { lg_k = l; width = w; content = coupons S p }) S
     of l w (registers R s) = pick (eqb (len (pairs R)) 0) (merge_registers m g l R s)
 
--- the lg_k after one more
+-- the lg_k after one more sketch
 abbrev pub lowered : ℕ → Sketch → ℕ
 lowered e x = if has_nonzero_registers x then min x.lg_k e else e
 
@@ -106,7 +106,7 @@ least-lowered e x (y ∷ xs) = ap (λ n. cond (has_nonzero_registers y) (min y.l
     n : ℕ
     n = least_lg_k e xs
 
--- the lg_k of a gadget after one more, and then others
+-- the lg_k of a gadget after one more sketch, and then others
 pub least-merge : (bound : ℕ) (g x : Sketch) (xs : List Sketch) → least_lg_k (merge bound g x).lg_k xs ≡ least_lg_k g.lg_k (x ∷ xs)
 least-merge bound g x xs =
     let next : (merge bound g x).lg_k ≡ lowered g.lg_k x = lg_k-merge bound g x ∙ elim (has_nonzero_registers x) as (λ b. cond b (min g.lg_k x.lg_k) g.lg_k ≡ cond b (min x.lg_k g.lg_k) g.lg_k) [ true ↦ omega arith | false ↦ refl ] in

@@ -23,7 +23,7 @@ use Rattle.hll_sketch.specs.Value.{coupons}
 use Rattle.hll_sketch.proofs.FrontImages.{list_is_read, set_is_read}
 use Rattle.hll_sketch.proofs.ListImages.{list_image}
 
--- coupons in a number that isn't 0 are some
+-- a number of coupons that isn't 0 gives a set that isn't empty
 some_coupons : (n : ℕ) (b : List ℕ) → 1 ≤ n → AreCoupons (raw_coupons n b) → len (set_of (raw_coupons n b)) ≡ 0 → ⊥
 some_coupons n b some are none = omega (arith, some, are.distinct, none, length-raw_coupons n b)
 
@@ -66,7 +66,7 @@ set_of_coupons b n h table whole count compact some room there are =
 
 -- ---- ascending raw coupons
 
--- a number below all of a list is none of them
+-- a number below all numbers of a list is not in it
 absent : (x : ℕ) (xs : List ℕ) → All (λ y. x < y) xs → list_any (λ y. nat_eq y x) xs ≡ false
 absent x [] below = refl
 absent x (y ∷ ys) below =
@@ -74,7 +74,7 @@ absent x (y ∷ ys) below =
     ap (λ b. b || list_any (λ y. nat_eq y x) ys) (ne_eqb y x (λ same. omega (arith, same, first)))
     ∙ absent x ys (λ i d within. below (suc i) d (omega (arith, within)))
 
--- numbers of which each is below all later ones are distinct
+-- numbers that are each below all later ones are distinct
 distinct : (xs : List ℕ) → AllPairs (λ x y. x < y) xs → len (set_of xs) ≡ length xs
 distinct [] pairs = len-empty nat_cmp
 distinct (x ∷ xs) pairs =
@@ -91,14 +91,14 @@ increasing_coupons xs up =
       distinct = distinct xs (λ i j d less within. pairs (suc i) (suc j) d (omega (arith, less)) (omega (arith, within)));
     }
 
--- and so are raw coupons that are evidently coupons
+-- and so are raw coupons for which one pass shows it
 pub evident_coupons : (xs : List ℕ) → AreEvidentlyCoupons xs → AreCoupons xs
 evident_coupons xs (inl up) = increasing_coupons xs up
 evident_coupons xs (inr few) = few.1
 
 -- ---- raw coupons that are left
 
--- the first of them, and those after it
+-- the first of them, and the ones after it
 pub next_raw_coupon : (left counter count : ℕ) (b : List ℕ) → left + counter ≡ count → counter < count → raw_coupons left b ≡ from_le_bytes w32 b ∷ raw_coupons (left - 1) (drop 4 b)
 next_raw_coupon zero counter count b is less = absurd (omega (arith, is, less))
 next_raw_coupon (suc n) counter count b is less = ap (λ m. from_le_bytes w32 b ∷ raw_coupons m (drop 4 b)) (let e : n ≡ suc n - 1 = omega arith in e)

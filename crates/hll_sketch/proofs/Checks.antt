@@ -1,5 +1,5 @@
 -- SPDX-License-Identifier: Apache-2.0
--- What each check tests, and what holds of the first that fails.
+-- What each check tests, and what holds for the first that fails.
 use Rattle.std.proofs.Common.{arith, ◌≡◌, ◌⊎◌, ℕ, ◌+◌, ◌^◌, ◌<◌, ◌≤◌, Bool, true, false, cond, eqb, leb, ltb, ◌&&◌, ◌||◌, List, ◌++◌, length, drop, All, Option, Some, None, refl, sym, ap, ◌∙◌}
 use Rattle.std.specs.Bool.{Decides, beq}
 use Rattle.std.specs.Prelude.{IsTrue, ◌↔◌}
@@ -89,7 +89,7 @@ Decides-all_agree b = let h = hll4_shape b in Decides-below _ _ (λ s. Decides-a
 
 -- ---- the header
 
--- the checks of a header that passes them go on to those after
+-- the checks of a header that passes them are followed by those after it
 pub header_passed : (b : List ℕ) (stage : ℕ) (cs : List Check) → stage < 3 → HasHeader b stage → first_failing (header_checks b ++ cs) ≡ first_failing cs
 header_passed b stage cs three h =
     passed _ _ _ (Decides-leb 8 (length b)) h.whole

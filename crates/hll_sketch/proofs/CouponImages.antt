@@ -1,5 +1,5 @@
 -- SPDX-License-Identifier: Apache-2.0
--- Images of coupons in order, and the union of two.
+-- Images of coupons in order, and the union of two such images.
 use Rattle.std.proofs.Common.{◌≡◌, ◌≢◌, ℕ, zero, suc, ◌+◌, ◌-◌, ◌/◌, ◌%◌, ◌^◌, ◌<◌, ◌≤◌, [], ◌∷◌, ◌&&◌, true, false, nat_eq, List, length, take, drop, get_or, Option, Some, None, refl, sym, ap, subst, ◌∙◌, arith}
 use Rattle.std.specs.FinSet.{union, len, len-empty}
 use Rattle.std.specs.Ordering.{nat_cmp}
@@ -132,7 +132,7 @@ module _ (k : ℕ) (x y : Sketch) (S T : Pairs) (p q : ℕ) (at_k : x.lg_k ≡ k
   not_empty : (z : Sketch) (P : Pairs) (r : ℕ) → z.content ≡ coupons P r → len P ≢ 0 → is_empty z ≡ false
   not_empty z P r is some = ap (λ c. nat_eq (len (pairs_in c)) 0) is ∙ ne_eqb (len P) 0 some
 
-  -- the first sketch is taken whole
+  -- the first sketch is copied with its table
   taken_whole : merge k (empty_union k) x ≡ first
   taken_whole =
       cond-false (is_empty x) (empty_union k) (merge_content k (empty_union k) x x.content) (not_empty x S p x_is some_x)
@@ -143,7 +143,7 @@ module _ (k : ℕ) (x y : Sketch) (S T : Pairs) (p q : ℕ) (at_k : x.lg_k ≡ k
       whole : (is_empty (empty_union k) && nat_eq k x.lg_k) ≡ true
       whole = (λ i. nat_eq (len-empty nat_cmp i) 0 && nat_eq k x.lg_k) ∙ eq-eqb k x.lg_k (sym at_k)
 
-  -- the coupons of the second are added
+  -- the coupons of the second sketch are added
   pub merged : (o : Option ℕ) → stage k p (len (union S T)) ≡ o → merge k (merge k (empty_union k) x) y ≡ record { lg_k = k; width = Hll8; content = content_for k (union S T) o }
   merged o held =
       ap (λ g. merge k g y) taken_whole
@@ -188,7 +188,7 @@ module _ (k kl kr p q : ℕ) (left right xs ys : List ℕ) (l : IsInOrder left k
         written = subst (λ (z : Sketch). Written image (record z { width = width })) (sym same) both.written;
       }
 
-  -- no table holds it
+  -- no table holds the union
   pub no_table : stage k p (len (union (set_of xs) (set_of ys))) ≡ None → HaveUnionInTable k left right → ⊥
   no_table none have =
       let full : merge k (merge k (empty_union k) l.sketch) r.sketch ≡ record { lg_k = k; width = Hll8; content = content_for k (union (set_of xs) (set_of ys)) None } =
@@ -196,15 +196,15 @@ module _ (k kl kr p q : ℕ) (left right xs ys : List ℕ) (l : IsInOrder left k
       true≢false (sym (ap (λ (z : Sketch). in_registers z.content) full) ∙ (have.held l.sketch r.sketch l.read r.read).in_table)
 
 module _ (k kl kr p q : ℕ) (left right xs ys : List ℕ) (l : IsInOrder left kl p xs) (r : IsInOrder right kr q ys) where
-  -- the first is not at the bound
+  -- the first sketch is not at the bound
   pub other_bound : (kl ≡ k → ⊥) → HaveUnionInTable k left right → ⊥
   other_bound other have = other (sym l.lg_k ∙ (have.held l.sketch r.sketch l.read r.read).lg_k)
 
-  -- both are read
+  -- both images are read
   pub both_read : kl ≡ k → IsLgK kl → AreBothRead k left right
   both_read same legal = record { bound_is = subst IsLgK same legal; left_sketch = l.sketch; left_read = l.read; right_sketch = r.sketch; right_read = r.read }
 
--- raw coupons that ascend from the greatest without a value ascend
+-- raw coupons that ascend from the greatest one with the value 0 ascend
 pub ascends_after : (xs : List ℕ) → IsStrictlyIncreasing ((2 ^ 26 - 1) ∷ xs) → IsStrictlyIncreasing xs
 ascends_after xs up k within =
     let e : suc k + 1 ≡ suc (k + 1) = omega arith in subst (λ n. get_or xs k 0 < get_or ((2 ^ 26 - 1) ∷ xs) n 0) e (up (suc k) (omega (arith, within)))
@@ -225,7 +225,7 @@ module _ (k size : ℕ) (b xs : List ℕ) (of : IsInOrder b k size xs) where
         (record { order = xs; ascending = own_order; is = is ∙ ap (λ n. coupon_image n width size xs) (sym of.lg_k) });
   }
 
-  -- its table holds them
+  -- its table holds the coupons
   pub own_table : AreBytes b → IsTableFor k (length xs) size
   own_table are =
       let legal : IsLegal of.sketch = read_is_legal b of.sketch are of.read in

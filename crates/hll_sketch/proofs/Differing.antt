@@ -1,5 +1,5 @@
 -- SPDX-License-Identifier: Apache-2.0
--- Coupons that are distinguished by marks.
+-- Coupons that are checked with marks to be distinct.
 use Rattle.std.proofs.Common.{◌≡◌, ℕ, zero, suc, ◌+◌, ◌-◌, ◌*◌, ◌%◌, ◌<◌, ◌≤◌, Bool, true, false, ◌||◌, nat_eq, List, [], ◌∷◌, ◌++◌, length, drop, get_or, set, replicate, inl, inr, sym, ap, subst, ◌∙◌, ◌⊎◌, arith}
 use Rattle.std.specs.Int.{w32, from_le_bytes}
 use Rattle.std.specs.Cmp.{nat_cmp_total, unsigned_tied}
@@ -22,11 +22,11 @@ raw_coupons_split (suc m) n b =
     ∙ ap (λ ws. from_le_bytes w32 b ∷ ws) (raw_coupons_split m n (drop 4 b))
     ∙ ap (λ l. from_le_bytes w32 b ∷ (raw_coupons m (drop 4 b) ++ raw_coupons n l)) (drop-drop (4 * m) 4 b ∙ ap (λ k. drop k b) d)
 
--- one more
+-- one more raw coupon
 pub one_more : (index w : ℕ) (b cursor : List ℕ) → cursor ≡ drop (4 * index) b → w ≡ from_le_bytes w32 cursor → raw_coupons (index + 1) b ≡ raw_coupons index b ++ w ∷ []
 one_more index w b cursor after is = raw_coupons_split index 1 b ∙ (λ i. raw_coupons index b ++ raw_coupons 1 (sym after i)) ∙ ap (λ v. raw_coupons index b ++ v ∷ []) (sym is)
 
--- all of them, from one on
+-- all of them, from an index on
 all_from : (index count w : ℕ) (b cursor : List ℕ) → index < count → cursor ≡ drop (4 * index) b → w ≡ from_le_bytes w32 cursor →
     raw_coupons count b ≡ raw_coupons index b ++ w ∷ raw_coupons (count - (index + 1)) (drop 4 cursor)
 all_from index count w b cursor less after is =
@@ -36,7 +36,7 @@ all_from index count w b cursor less after is =
 
 -- ---- marks
 
--- a mark more
+-- one more mark
 marked-push : (n : ℕ) (order : List ℕ) (marks : List Bool) (w : ℕ) → w % n < length marks → AreMarked n order marks → AreMarked n (order ++ w ∷ []) (set marks (w % n) true)
 marked-push n order marks w within marked c there = at (cases_Bool (nat_eq (c % n) (w % n)))
   where
@@ -80,7 +80,7 @@ module _ (index count n : ℕ) (b cursor : List ℕ) (marks : List Bool) (so : D
         marked = subst (λ xs. AreMarked n xs (set marks (w % n) true)) (sym more) (marked-push n (raw_coupons index b) marks w (omega (arith, within, so.size)) so.marked);
       }
 
-  -- a raw coupon without a value is no coupon, nor one that stands before
+  -- a raw coupon with the value 0 is not a coupon, and neither is one that equals one before it
   pub differ_without : value_of w ≡ 0 → AreCoupons (raw_coupons count b) → ⊥
   differ_without none are = no_value (raw_coupons index b) _ w none (subst AreCoupons (all_from index count w b cursor less so.after is) are)
 

@@ -15,7 +15,7 @@ first_number (w ∷ x ∷ []) there = absurd (omega arith)
 first_number (w ∷ x ∷ y ∷ []) there = absurd (omega arith)
 first_number (w ∷ x ∷ y ∷ z ∷ b) there = refl
 
--- the first of the elements of some bytes
+-- the first elements of some bytes
 pub raws-chunks : (n m : ℕ) (b : List ℕ) → n ≤ m → 4 * m ≤ length b → map (from_le_bytes w32) (take n (first_chunks 4 m b)) ≡ raw_coupons n b
 raws-chunks zero m b le there = refl
 raws-chunks (suc n) zero b le there = absurd (omega (arith, le))

@@ -1,5 +1,5 @@
 -- SPDX-License-Identifier: Apache-2.0
--- A fault of an image is one of data.
+-- A fault of an image is a fault of its data.
 use Rattle.std.proofs.Common.{◌≡◌, ℕ, List, refl, sym, ap, ◌∙◌}
 use Rattle.hll_base.specs.declared.error.Reason.{Reason}
 use Rattle.hll_base.specs.declared.error.Reason.TheVariants as reasons
@@ -86,10 +86,10 @@ faults_are_of_data b r (fault.IsFault.hll4_payload l s w k f) = hll4_data _ _ r 
 pub not_memory : (b : List ℕ) (r : Reason) → HeaderFault b r → r ≡ reasons.Memory → ⊥
 not_memory b r f is = let other : InvalidData ≡ OutOfMemory = sym (header_data b r f) ∙ ap kind_of is in cc
 
--- nor is the first one of registers of eight bits
+-- neither is the first fault of 8-bit registers
 pub eight_not_memory : (k : ℕ) (b : List ℕ) (r : Reason) → FirstHll8Fault k b r → r ≡ reasons.Memory → ⊥
 eight_not_memory k b r f is = let other : InvalidData ≡ OutOfMemory = sym (first_hll8_data k b r f) ∙ ap kind_of is in cc
 
--- nor of six bits
+-- nor that of 6-bit registers
 pub six_not_memory : (k : ℕ) (b : List ℕ) (r : Reason) → FirstHll6Fault k b r → r ≡ reasons.Memory → ⊥
 six_not_memory k b r f is = let other : InvalidData ≡ OutOfMemory = sym (first_hll6_data k b r f) ∙ ap kind_of is in cc

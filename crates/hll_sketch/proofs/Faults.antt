@@ -1,5 +1,5 @@
 -- SPDX-License-Identifier: Apache-2.0
--- Where a fault stands, no front of the bytes is an image.
+-- If bytes have a fault, no prefix of them is an image.
 use Rattle.std.proofs.Common.{◌≡◌, ℕ, List, ◌++◌, take, drop, sym, ap, subst, ◌∙◌, arith}
 use Rattle.std.proofs.lemmas.List.{take-append-drop, length-drop}
 use Rattle.hll_base.specs.declared.error.Reason.{Reason}
@@ -13,7 +13,7 @@ use Rattle.hll_sketch.specs.Fault as fault
 use Rattle.hll_sketch.proofs.Headers.{HasHeader-same}
 use Rattle.hll_sketch.proofs.Images.{at, rest, same_width, same_list_shape, same_set_shape, same_hll4_shape}
 
--- ---- where a fault of the header stands, it is of no stage
+-- ---- if the header has a fault, it is the header of no stage
 
 pub fault_excludes_header : FaultExcludesHeader
 fault_excludes_header b r s three (fault.HeaderFault.short l) h = omega (arith, h.whole)
@@ -24,10 +24,10 @@ fault_excludes_header b r s three (fault.HeaderFault.width l n) h = omega (arith
 fault_excludes_header b r s three (fault.HeaderFault.stage l n) h = omega (arith, h.stage_is)
 fault_excludes_header b r s three (fault.HeaderFault.preamble l below n) h = n (h.preamble ∙ ap preamble_words (sym h.stage_is))
 
--- ---- where a fault stands, no front is an image
+-- ---- if bytes have a fault, no prefix of them is an image
 
 module _ (a t b : List ℕ) (e : a ++ t ≡ b) where
-  -- the checks of every stage, carried to the whole
+  -- the checks of every stage, carried over to all bytes
   headed : {s : ℕ} → HasHeader a s → HasHeader b s
   headed h = HasHeader-same a b (at a t b e h.whole) (omega (arith, h.whole, front_le a t b e)) h
 

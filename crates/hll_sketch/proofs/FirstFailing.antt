@@ -1,5 +1,5 @@
 -- SPDX-License-Identifier: Apache-2.0
--- Which check fails first, by the faults that readers of payloads answer.
+-- Which check fails first, by the faults that readers of payloads fail with.
 use Rattle.std.proofs.Common.{arith, ◌≡◌, ◌≢◌, ◌⊎◌, ℕ, ◌+◌, ◌*◌, ◌^◌, ◌<◌, ◌≤◌, Bool, true, false, cond, eqb, leb, List, [], ◌∷◌, ◌++◌, length, take, drop, All, Some, None, Result, Ok, Err, IfErr, inl, inr, refl, sym, ap, subst, ◌∙◌}
 use Rattle.std.proofs.lemmas.Bool.{cases_eq, true≢false}
 use Rattle.std.proofs.lemmas.Bool.Decides.{Decides-eqb, Decides-ltb}
@@ -16,7 +16,7 @@ use Rattle.hll_sketch.specs.Image.{lg_k_byte, table_byte, state_byte, width_bits
 use Rattle.hll_sketch.specs.Checks.{Check, Checks, check, first_failing, checks_after, list_checks, set_checks, plain_checks, hll4_checks, hll6_checks, hll8_checks, size_fault, first_fault}
 use Rattle.hll_sketch.proofs.Checks.{passed, failed, header_passed, Decides-leb, Decides-list_count, Decides-set_table, Decides-coupons, Decides-entries, Decides-small, Decides-plain, Decides-counts, Decides-table, Decides-all_agree}
 
--- a check that fails first does so whatever follows
+-- a check that fails first does so whatever checks follow
 pub failing_before : (cs ds : List Check) (r : Reason) → first_failing cs ≡ Some r → first_failing (cs ++ ds) ≡ Some r
 failing_before [] ds r e = absurd (let none : None ≡ Some r = e in cc)
 failing_before (c ∷ cs) ds r e = of c.passes (failing_before cs ds r) e
@@ -26,7 +26,7 @@ failing_before (c ∷ cs) ds r e = of c.passes (failing_before cs ds r) e
     of true further f = further f
     of false further f = f
 
--- none of the first checks fails, if none of all
+-- if no check fails, none of the first checks fails
 pub none_before : (cs ds : List Check) → first_failing (cs ++ ds) ≡ None → first_failing cs ≡ None
 none_before [] ds e = refl
 none_before (c ∷ cs) ds e = of c.passes (none_before cs ds) e
@@ -53,7 +53,7 @@ module _ (b : List ℕ) where
   pub after_hll : (w : ℕ) → HasHeader b 2 → width_bits b ≡ w → checks_after b ≡ cond (eqb w 0) (hll4_checks b) (cond (eqb w 1) (hll6_checks b) (hll8_checks b))
   after_hll w h width = λ i. cond (eqb (h.stage_is i) 0) (list_checks b) (cond (eqb (h.stage_is i) 1) (set_checks b) (cond (eqb (width i) 0) (hll4_checks b) (cond (eqb (width i) 1) (hll6_checks b) (hll8_checks b))))
 
-  -- the first fault is that of the checks after
+  -- the first fault is that of the checks after the header
   pub first_after : (s : ℕ) (cs : Checks) → s < 3 → HasHeader b s → checks_after b ≡ cs → first_fault b ≡ first_failing (cs.size ++ cs.content)
   first_after s cs three h is = header_passed b s ((checks_after b).size ++ (checks_after b).content) three h ∙ ap (λ (cs : Checks). first_failing (cs.size ++ cs.content)) is
 
@@ -136,7 +136,7 @@ module _ (b : List ℕ) where
   pub set_asked : HasHeader b 1 → HasSetTable b → HasSetCount (set_shape b) (drop 8 b) → 4 + 4 * set_buckets (set_shape b) (drop 8 b) ≤ length (drop 8 b) → size_fault b ≡ None
   set_asked h table count there = size_after 1 (set_checks b) (omega arith) h (after_set h) ∙ set_sized [] table count there
 
-  -- ---- registers of eight and six bits
+  -- ---- 8-bit and 6-bit registers
 
   plain_sized : (n : ℕ) (cs : List Check) → HasPlainCounts (lg_k_byte b) (drop 8 b) → 32 + n ≤ length (drop 8 b) → first_failing (plain_checks n b ++ cs) ≡ first_failing cs
   plain_sized n cs counts there =
@@ -180,7 +180,7 @@ module _ (b : List ℕ) where
   pub six_first : (r : Reason) → HasHeader b 2 → width_bits b ≡ 1 → FirstHll6Fault (lg_k_byte b) (drop 8 b) r → first_fault b ≡ Some r
   six_first r h width f = first_after 2 (hll6_checks b) (omega arith) h (after_hll 1 h width) ∙ six_failing r f
 
-  -- the counts of a front are those of the whole
+  -- the counts in a prefix are those in all bytes
   front_counts : (n : ℕ) → length (take (32 + n) (drop 8 b)) ≡ 32 + n → num_at_cur_min (take (32 + n) (drop 8 b)) ≤ 2 ^ lg_k_byte b → exception_count (take (32 + n) (drop 8 b)) ≡ 0 → HasPlainCounts (lg_k_byte b) (drop 8 b)
   front_counts n size low none =
       let a : List ℕ = take (32 + n) (drop 8 b) in
@@ -203,7 +203,7 @@ module _ (b : List ℕ) where
       size_after 2 (hll6_checks b) (omega arith) h (after_hll 1 h width)
       ∙ plain_sized n [] (front_counts n p.size p.zero_count p.no_exceptions) (omega (arith, p.size, length-take (32 + n) (drop 8 b)))
 
-  -- ---- registers of four bits
+  -- ---- 4-bit registers
 
   -- a table that is needed has a size in its range
   right_table : HasEntries (hll4_shape b) (drop 8 b) → (is_flagged 8 b ≡ true) ⊎ ((exception_count (drop 8 b) ≡ 0) ⊎ (table_byte b ≤ 26))

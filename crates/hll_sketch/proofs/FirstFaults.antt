@@ -1,5 +1,5 @@
 -- SPDX-License-Identifier: Apache-2.0
--- The first check that fails is a fault, and bytes that pass all have an image in front.
+-- The first check that fails is a fault, and bytes that pass all checks begin with an image.
 use Rattle.std.proofs.Common.{arith, ◌≡◌, ◌≢◌, ◌⊎◌, ℕ, ◌+◌, ◌*◌, ◌^◌, ◌<◌, ◌≤◌, false, eqb, List, ◌++◌, length, take, drop, All, Option, Some, None, inl, inr, refl, sym, ap, subst, ◌∙◌}
 use Rattle.std.proofs.lemmas.Bool.{cond_both, cases_lt, false_from_ne_true, eqb-false, true≢false}
 use Rattle.std.proofs.lemmas.Bool.Decides.{Decides-eqb, Decides-ltb}
@@ -24,7 +24,7 @@ use Rattle.hll_sketch.proofs.Faults.{fault_excludes_image}
 use Rattle.hll_sketch.proofs.FrontImages.{read_as-list, read_as-set, read_as-eight, read_as-six, read_as-four}
 use Rattle.hll_sketch.proofs.ListImages.{list_image}
 
--- with a reason it is a fault, without one the bytes are read as a sketch
+-- if there is a reason, it is a fault; if there is none, the bytes are read as a sketch
 abbrev Outcome : List ℕ → Option Reason → Type 0
 Outcome b None = (x : Sketch) × IsReadAs b x
 Outcome b (Some r) = IsFault b r
@@ -160,7 +160,7 @@ module _ (b : List ℕ) where
 pub first_fault_stands : FirstFaultStands
 first_fault_stands b r e = subst (Outcome b) e (outcome b)
 
--- with an image there is no first fault
+-- if there is an image, there is no first fault
 excluded : (b : List ℕ) (o : Option Reason) → Outcome b o → (x : Sketch) → IsReadAs b x → o ≡ None
 excluded b None out x read = refl
 excluded b (Some r) out x read = absurd (fault_excludes_image b r out read.size x read.image)

@@ -18,14 +18,14 @@ module _ (V B : List ℕ) (k e : ℕ) (small : k ≤ 21) (le : e ≤ k) (size : 
       sym (ap (λ R. fold_to (pairs R) e) (take_at V B ((0 + 1) * 2 ^ e) one) ∙ fold_to-pairs V e (omega (arith, small, le)) size)
 
   module _ (i : ℕ) (inside : i < 2 ^ (k - e) - 1) where
-    -- a block after it lies within
+    -- a block after it is inside
     pub block_there : (i + 1) * length V ≤ length B
     block_there =
         let within : (i + 1 + 1) * 2 ^ e ≤ 2 ^ k = block-within k e (i + 1) small le (omega (arith, inside)) in
         let at : (i + 1) * length V ≡ (i + 1) * 2 ^ e = ap (λ n. (i + 1) * n) size in
         omega (arith, within, at, all, length-append V B, size)
 
-    -- and is joined
+    -- and its maximum with the first block is taken
     pub next_block : (W : List ℕ) → W ≡ folded (V ++ B) e ((i + 1) * 2 ^ e)
         → join W (take ((i + 1) * length V - i * length V) (drop (i * length V) B)) ≡ folded (V ++ B) e ((i + 1 + 1) * 2 ^ e)
     next_block W is =
@@ -37,7 +37,7 @@ module _ (V B : List ℕ) (k e : ℕ) (small : k ≤ 21) (le : e ≤ k) (size : 
         let after : drop (i * n) B ≡ drop ((i + 1) * 2 ^ e) (V ++ B) = sym (drop-append-add V B (i * n)) ∙ ap (λ m. drop m (V ++ B)) at in
         (λ t. join (is t) (take (one t) (after t))) ∙ sym (folded-next (V ++ B) e (i + 1) few enough)
 
-  -- and then all are
+  -- and then all blocks are done
   pub all_blocks : (i : ℕ) (W : List ℕ) → 2 ^ (k - e) ≤ i + 1 → W ≡ folded (V ++ B) e ((i + 1) * 2 ^ e) → W ≡ fold_to (pairs (V ++ B)) e
   all_blocks i W last is =
       let most : length (V ++ B) ≤ (i + 1) * 2 ^ e = (let more : 2 ^ (k - e) * 2 ^ e ≤ (i + 1) * 2 ^ e = mul-le-mul_right (2 ^ e) last in omega (arith, more, whole k e 0 small le, all)) in

@@ -14,13 +14,13 @@ use Rattle.hll_sketch.specs.Stage.{stage}
 use Rattle.hll_sketch.specs.Value.{Sketch, Content, coupons, registers, pairs_in, in_registers, IsLegal, IsLegalContent}
 use Rattle.hll_sketch.proofs.LegalSketches.{settled_legal, fold_are_registers, ArePairs-pairs, IsState-cleared_state}
 
--- registers folded to their own lg_k are as they were
+-- registers folded to their own lg_k are unchanged
 pub folded_at_own : (k e : ℕ) (c : Content) → e ≡ k → k ≤ 21 → IsLegalContent k c → in_registers c ≡ true → c ≡ folded_content k e c
 folded_at_own k e (coupons S p) same small legal is = absurd (cc)
 folded_at_own k e (registers R s) same small legal is =
     sym (λ i. registers ((ap (fold_to (pairs R)) same ∙ fold_to-pairs R k small legal.0.size) i) (cond-true (eqb e k) s cleared_state (eq-eqb e k same) i))
 
--- so a sketch of registers at its own lg_k is its own fold
+-- so a sketch with registers is its own fold at its own lg_k
 pub own_fold_of_registers : (x : Sketch) (e : ℕ) → x.lg_k ≡ e → IsLegal x → in_registers x.content ≡ true → folded x e ≡ x
 own_fold_of_registers x e same legal is =
     λ i. record { lg_k = sym same i; width = x.width; content = sym (folded_at_own x.lg_k e x.content (sym same) legal.lg_k.high legal.content is) i }

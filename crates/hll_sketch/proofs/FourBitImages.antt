@@ -1,5 +1,5 @@
 -- SPDX-License-Identifier: Apache-2.0
--- What the reader of registers of four bits gives and asks for, of an image.
+-- What the reader of 4-bit registers returns for an image, and which bytes it needs.
 use Rattle.std.proofs.Common.{◌≡◌, Bool, List, ℕ, take, drop, cond, ap, subst, ◌∙◌, None}
 use Rattle.hll_registers.specs.Payload.{Hll4Shape, hll4_size, registers_of, shape_of_hll4, state_at, IsHll4Payload, IsWhole}
 use Rattle.hll_registers.specs.declared.aux_format.AuxFormat.{AuxFormat}
@@ -11,7 +11,7 @@ use Rattle.hll_sketch.specs.declared.header.Header.{Header}
 use Rattle.hll_sketch.proofs.FirstFailing.{four_asked}
 use Rattle.hll_sketch.proofs.FrontImages.{whole_as, payload_as, registers_as, size_as}
 
--- the registers that the reader of the payload gives
+-- the registers that the reader of the payload returns
 abbrev pub Given : Hll4Shape → ℕ → Bool → List ℕ → Stored → Type 0
 Given h k flag payload a = IsHll4Payload h (take (hll4_size h payload) payload) × (a ≡ record { lg_k = k; registers = registers_of h (take (hll4_size h payload) payload); state = state_at flag payload })
 
@@ -29,7 +29,7 @@ given_as k m q c flag payload format a is given =
       h.1 ∙ (λ i. record { lg_k = k; registers = (ap (λ n. registers_of (shape_of_hll4 k m (cond c AuxFormat.Compact (AuxFormat.Updatable q))) (take n payload)) n ∙ registers_as k m q c (take (hll4_size (let s : Hll4Shape = record { lg_k = k; minimum = m; compact = c; lg_table = q } in s) payload) payload)) i; state = state_at flag payload }),
     )
 
--- what the reader asks for is there
+-- the bytes that the reader needs are there
 pub asked_as : (b : List ℕ) (h : Header) (format : AuxFormat) (payload : List ℕ) → h ≡ header_of b → HasHeader b 2 → width_bits b ≡ 0 → payload ≡ drop 8 b → format ≡ cond h.compact AuxFormat.Compact (AuxFormat.Updatable h.lg_arr) →
     IsWhole (shape_of_hll4 h.lg_k h.state_byte format) payload → size_fault b ≡ None
 asked_as b h format payload is has width rest from whole =

@@ -1,5 +1,5 @@
 -- SPDX-License-Identifier: Apache-2.0
--- A front of bytes that is an image, and what it means.
+-- A prefix of bytes that is an image, and its sketch.
 use Rattle.std.proofs.Common.{◌≡◌, ℕ, ◌+◌, ◌-◌, ◌*◌, ◌/◌, ◌%◌, ◌^◌, ◌<◌, ◌≤◌, Bool, true, false, cond, eqb, List, ◌++◌, length, take, drop, refl, sym, ap, subst, ◌∙◌, arith}
 use Rattle.std.proofs.lemmas.List.{take-append-drop, drop-take, drop-drop, length-drop, length-take}
 use Rattle.hll_coupons.specs.Coupons.{AreCoupons}
@@ -23,7 +23,7 @@ use Rattle.hll_sketch.specs.Image.{byte, lg_k_byte, table_byte, width_bits, widt
 use Rattle.hll_sketch.proofs.Headers.{HasHeader-same}
 use Rattle.hll_sketch.proofs.Images.{at, rest, same_width, same_list_shape, same_set_shape, same_hll4_shape}
 
--- ---- a front with the header and n bytes more
+-- ---- a prefix with the header and n more bytes
 
 module _ (b : List ℕ) (n : ℕ) (there : 8 + n ≤ length b) where
   abbrev front : List ℕ
@@ -61,7 +61,7 @@ registers_after b m =
     let a : List ℕ = take (8 + (32 + m)) b in
     sym (drop-drop 32 8 a) ∙ ap (drop 32) (drop-take 8 (32 + m) b) ∙ drop-take 32 m (drop 8 b)
 
--- as long as its payload says
+-- there are as many bytes as its payload says
 room : (b : List ℕ) (n : ℕ) → 8 ≤ length b → length (take n (drop 8 b)) ≡ n → 8 + n ≤ length b
 room b n whole size = omega (arith, size, length-take n (drop 8 b), length-drop 8 b)
 
@@ -165,7 +165,7 @@ pub read_as-set : (b : List ℕ) (t : Table) → HasHeader b 1 → HasSetTable b
 read_as-set b t h table payload lg members =
     subst (λ c. IsReadAs b (record { lg_k = lg_k_byte b; width = width_of_bits (width_bits b); content = c })) (λ i. coupons (sym members i) (sym lg i)) (set_is_read b h table payload)
 
--- the coupons of a list are those of the front that is its image
+-- the coupons of a list are those of the prefix that is its image
 front_list_coupons : (b : List ℕ) → let a = take (8 + 4 * list_buckets (list_shape b)) b in IsListImage a → list_coupons (list_shape a) (drop 8 a) ≡ list_coupons (list_shape b) (drop 8 b)
 front_list_coupons b is =
     let m : ℕ = 4 * list_buckets (list_shape b) in
@@ -195,7 +195,7 @@ read_as-list b t is table =
     sym (ap (λ (u : Table). coupons_in u.buckets) table ∙ coupons_in-list_table (list_shape b) (drop 8 b) (subst AreCoupons (front_list_coupons b is) is.payload.are_coupons)) in
     subst (λ c. IsReadAs b (record { lg_k = lg_k_byte b; width = width_of_bits (width_bits b); content = c })) (λ i. coupons (set_of (order i)) (ap (λ (u : Table). u.lg_size) (sym table) i)) (list_is_read b is)
 
--- ---- the shape of registers of four bits: where the exceptions follow one another, the size of a table doesn't count
+-- ---- the shape of 4-bit registers: if the exceptions are contiguous, the size of a table doesn't count
 
 abbrev with_format : ℕ → ℕ → Bool → ℕ → Hll4Shape
 with_format k m c q = shape_of_hll4 k m (cond c Compact (Updatable q))

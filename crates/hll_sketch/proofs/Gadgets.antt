@@ -1,5 +1,5 @@
 -- SPDX-License-Identifier: Apache-2.0
--- The gadget of a union stays one: empty, with pairs added, and with a sketch merged.
+-- The gadget of a union is still one after pairs are added or a sketch is merged; an empty one is one.
 use Rattle.std.proofs.Common.{◌≡◌, ℕ, ◌%◌, ◌^◌, ◌≤◌, ◌<◌, Bool, true, false, ◌&&◌, nat_eq, eqb, List, [], ◌∷◌, Option, Some, None, All, get_or, zero, suc, refl, sym, ap, subst, ◌∙◌, arith, inl, inr}
 use Rattle.std.specs.Prelude.{min}
 use Rattle.std.specs.Cmp.{nat_cmp_total}
@@ -25,7 +25,7 @@ use Rattle.hll_sketch.proofs.LegalImages.{ArePairs-set_of}
 use Rattle.hll_coupons.proofs.Unions.{no_members, union_right}
 use Rattle.hll_sketch.proofs.LegalSketches.{ArePairs-union, ArePairs-pairs, pairs_are}
 
--- a fold without pairs is of none
+-- if a fold has no pairs, it is the fold of no pairs
 pub fold_none : (k : ℕ) (P : Pairs) → ArePairs P → eqb (len (pairs (fold_to P k))) 0 ≡ true → P ≡ empty
 fold_none k P are e = no_members P (λ c h.
     let none : pairs (fold_to P k) ≡ empty = empty_of_len (pairs (fold_to P k)) (eqb-true (len (pairs (fold_to P k))) 0 e) in
@@ -48,7 +48,7 @@ false_unless false P f none = refl
 
 -- ---- pairs added
 
--- a content with pairs, at least one, is not empty
+-- a content to which pairs were added, at least one, is not empty
 some_with : (k : ℕ) (c : Content) (T : Pairs) → k ≤ 21 → IsLegalContent k c → ArePairs T → (T ≡ empty → ⊥) →
     in_registers (content_with k c T) ≡ true → eqb (len (pairs_in (content_with k c T))) 0 ≡ false
 some_with k (coupons S p) T small legal are some = of (stage k p (len (union S T)))
@@ -60,7 +60,7 @@ some_with k (registers R s) T small legal are some = λ _. false_unless _ (T ≡
     let is : join R (fold_to T k) ≡ fold_to (union (pairs R) T) k = ap (λ Q. join Q (fold_to T k)) (sym (fold_to-pairs R k small legal.0.size)) ∙ sym (fold_to-union (pairs R) T k) in
     union_right (pairs R) T (fold_none k (union (pairs R) T) (ArePairs-union (pairs R) T (ArePairs-pairs k R small legal.0) are) (ap (λ Q. eqb (len (pairs Q)) 0) (sym is) ∙ e))) some
 
--- registers stay registers
+-- registers remain registers
 stays_registers : (k : ℕ) (c : Content) (T : Pairs) → in_registers (content_with k c T) ≡ false → in_registers c ≡ false
 stays_registers k (coupons S p) T h = refl
 stays_registers k (registers R s) T h = h
@@ -83,13 +83,13 @@ All-one c pair = All-from_get_or IsPair (c ∷ []) 0 of
 pub ArePairs-one : (c : ℕ) → IsPair c → ArePairs (set_of (c ∷ []))
 ArePairs-one c pair = ArePairs-set_of (c ∷ []) (All-one c pair)
 
--- a coupon added
+-- a coupon is added
 pub gadget_with_coupon : (m : ℕ) (g h : Sketch) (c : ℕ) → IsGadget m g → IsLegal g → 1 ≤ value_of c → value_of c ≤ 63 → h ≡ add g (set_of (c ∷ [])) → IsGadget m h
 gadget_with_coupon m g h c is legal valued small e = rw e
     (gadget_with m g (set_of (c ∷ [])) is legal (ArePairs-one c (record { valued = valued; small = small }))
     (λ none. true≢false (sym (contains-from_list nat_cmp_total (c ∷ []) c ∙ or_left _ _ (itself c c refl)) ∙ ap (λ S. contains S c) none ∙ contains-empty nat_cmp c)))
 
--- ---- a sketch merged
+-- ---- a sketch is merged
 
 pub some_pairs : (P : Pairs) → eqb (len P) 0 ≡ false → P ≡ empty → ⊥
 some_pairs P some e = true≢false (sym (empty_none P e) ∙ some)
@@ -106,7 +106,7 @@ gadget_taking m g x bare some is legal other = elim (cases_Bool (is_empty g && n
       (gadget_with m g (pairs_of x) is legal (pairs_are x.lg_k x.content other.lg_k.high other.content) (some_pairs (pairs_of x) some))
 ]
 
--- registers that the maximum is taken with
+-- the maximum with registers is taken
 pub gadget_with_registers : (m : ℕ) (g : Sketch) (k : ℕ) (R : List ℕ) (s t : EstimateState) → k ≤ 21 → IsLegalContent k (registers R s) → eqb (len (pairs R)) 0 ≡ false →
     IsGadget m g → IsLegal g → IsGadget m (max_registers g k R t)
 gadget_with_registers m g k R s t small right some is legal =

@@ -18,14 +18,14 @@ module _ (room : List ℕ) (count : ℕ) (space : 4 * count ≤ length room) whe
   size : length (take (4 * count) room) ≡ 4 * count
   size = omega (arith, space, length-take (4 * count) room)
 
-  -- whatever comes after them, the first raw coupons stay
+  -- whatever comes after them, the first raw coupons are unchanged
   pub kept : (others : List ℕ) → raw_coupons count (take (4 * count) room ++ others) ≡ raw_coupons count room
   kept others =
       let front : List ℕ = take (4 * count) room in
       sym (front_coupons front others (front ++ others) refl true count 0 (omega (arith, size)))
       ∙ front_coupons front (drop (4 * count) room) room (take-append-drop (4 * count) room) true count 0 (omega (arith, size))
 
-  -- and its bytes are one raw coupon more
+  -- and the bytes have one more raw coupon
   pub put_raw_coupon : (raw_coupon : ℕ) (four rest : List ℕ) → raw_coupon < 2 ^ 32 → four ≡ to_le_bytes w32 raw_coupon → raw_coupons (count + 1) (take (4 * count) room ++ (four ++ rest)) ≡ raw_coupons count room ++ raw_coupon ∷ []
   put_raw_coupon raw_coupon four rest small is =
       let others : List ℕ = four ++ rest in
@@ -35,7 +35,7 @@ module _ (room : List ℕ) (count : ℕ) (space : 4 * count ≤ length room) whe
       sym (front_number four rest others refl 0 (omega (arith, ap length is))) ∙ ap (from_le_bytes w32) is ∙ from_le_bytes-to_le_bytes_4 raw_coupon small in
       raw_coupons_split count 1 all ∙ (λ i. kept others i ++ raw_coupons 1 (after i)) ∙ ap (λ w. raw_coupons count room ++ w ∷ []) read
 
--- ---- the coupons of one place more
+-- ---- the coupons of one more bucket
 
 more_full : (ws : List ℕ) (w : ℕ) → 0 < w → coupons_in (ws ++ w ∷ []) ≡ coupons_in ws ++ w ∷ []
 more_full ws w full = filter-append _ ws (w ∷ []) ∙ ap (λ xs. coupons_in ws ++ xs) (coupons_in-full w [] full)
@@ -75,7 +75,7 @@ module _ (index total count : ℕ) (bytes cursor room : List ℕ) (so : Gathered
   pub counted : count ≤ index
   counted = omega (arith, so.number, length-coupons_in (raw_coupons index bytes), length-raw_coupons index bytes)
 
-  -- one more is counted, where it is filled, and gathered, where there is room
+  -- one more is counted if it is filled, and gathered if there is room
   pub gathered_more : (extra : ℕ) → ((w ≡ 0) × (extra ≡ 0)) ⊎ ((0 < w) × (extra ≡ 1)) → length new ≡ 512 → (count ≤ 128 → raw_coupons count new ≡ raw_coupons count room) →
       (count < 128 → raw_coupons (count + 1) new ≡ raw_coupons count room ++ w ∷ []) → GatheredSoFar (index + 1) total (count + extra) bytes rest new
   gathered_more extra (inl none) size keeps puts =

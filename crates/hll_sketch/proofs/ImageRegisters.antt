@@ -24,11 +24,11 @@ use Rattle.hll_sketch.proofs.CouponImages.{coupons_say}
 use Rattle.hll_sketch.proofs.Promoting.{join-zeros}
 use Rattle.hll_sketch.proofs.SizedImages.{sized_if_read}
 
--- memory that is refused once an image is read
+-- an allocation that fails after an image was read
 pub wants_memory : (b : List ℕ) (x : Sketch) (e : Reason) → IsReadAs b x → e ≡ Memory → IsRefusal b e
 wants_memory b x e read is = record { first = inl is; asked = λ _. sized_if_read b x read }
 
--- registers as they stand in an image
+-- registers in the bytes of an image
 pub of_registers : (b : List ℕ) (x : Stored) (k : ℕ) (values : List ℕ) → IsOfRegisters b x → k ≡ x.lg_k → values ≡ fold_to (pairs x.registers) k → AreRegistersOf b k values
 of_registers b x k values of same are = record {
   sketch = of.sketch;
@@ -37,14 +37,14 @@ of_registers b x k values of same are = record {
   are = are ∙ ap (λ c. fold_to (pairs_in c) k) (sym of.content);
 }
 
--- registers as they lie in an image
+-- registers that are borrowed from an image
 pub lying : (b : List ℕ) (x : Stored) → IsOfRegisters b x → IsStored x → AreRegistersOf b x.lg_k x.registers
 lying b x of legal = of_registers b x x.lg_k x.registers of refl (sym (fold_to-pairs x.registers x.lg_k legal.high legal.registers.size))
 
 pub size_of_registers : (b : List ℕ) (k : ℕ) (R : List ℕ) → AreRegistersOf b k R → length R ≡ 2 ^ k
 size_of_registers b k R of = ap length of.are ∙ length-fold_to (pairs_of of.sketch) k
 
--- registers of the same lg_k are the same where they are once folded to it
+-- registers of the same lg_k are equal exactly if they are equal once folded to it
 pub same_at_own : (k j : ℕ) (R Q : List ℕ) (b : Bool) → k ≤ 21 → length R ≡ 2 ^ k → length Q ≡ 2 ^ j → k ≡ j → IsTrue b ↔ (R ≡ Q) → let e = min k j in IsTrue b ↔ (fold_to (pairs R) e ≡ fold_to (pairs Q) e)
 same_at_own k j R Q b small size others is test =
     let least : min k j ≡ k = omega (arith, is) in
@@ -70,7 +70,7 @@ no_width b h is either = sym (cond-false (eqb (stage_bits b) 2) _ None (ne_eqb (
       | inr set ↦ let no_set : 1 ≡ 2 = ap number_of_stage (sym set ∙ hll) in omega (arith, no_set)
     ])))
 
--- zeros, joined with the fold of pairs and put back
+-- the maximum of zeros and the fold of pairs
 pub filled_with : (k n : ℕ) (P : Pairs) (zeros new : List ℕ) → zeros ≡ replicate (2 ^ k) 0 → n ≡ 2 ^ k → new ≡ join zeros (fold_to P k) → take n (new ++ drop (length new) zeros) ≡ fold_to P k
 filled_with k n P zeros new none size joined =
     let is : new ≡ fold_to P k = joined ∙ ap (λ Z. join Z (fold_to P k)) none ∙ join-zeros k P in

@@ -1,5 +1,5 @@
 -- SPDX-License-Identifier: Apache-2.0
--- Worked images: what they mean, what is written, and a fault of each kind.
+-- Examples of images: their sketches, what is written for sketches, and a fault of each kind.
 use Rattle.std.proofs.Common.{◌≡◌, ℕ, false, List, [], ◌∷◌, length, drop, Some, None, refl, arith}
 use Rattle.std.specs.Prelude.{replicate}
 use Rattle.std.specs.FinSet.{len-empty}
@@ -15,7 +15,7 @@ use Rattle.hll_sketch.specs.Image.{list_shape, set_shape, hll4_shape}
 use Rattle.hll_sketch.specs.Checks.{first_fault}
 use Rattle.hll_sketch.specs.Fault.{IsFault, set_table, hll8_payload, hll4_payload}
 
--- ---- what images mean
+-- ---- the sketches of images
 
 -- a list in eight buckets, with gaps between slot 7 with value 2 and slot 5 with value 1
 abbrev list_with_gaps : List ℕ
@@ -34,21 +34,21 @@ coupons-set_in_buckets = refl
 pub count-set_in_buckets : length (set_coupons (set_shape set_in_buckets) (drop 8 set_in_buckets)) ≡ set_count (drop 8 set_in_buckets)
 count-set_in_buckets = refl
 
--- four bits, with the one exception in a table of four buckets
+-- 4-bit registers, with the one exception in a table of four buckets
 abbrev four_with_table : List ℕ
 four_with_table = 10 ∷ 1 ∷ 7 ∷ 4 ∷ 2 ∷ 0 ∷ 0 ∷ 2 ∷ 0 ∷ 0 ∷ 0 ∷ 0 ∷ 0 ∷ 0 ∷ 0 ∷ 0 ∷ 0 ∷ 0 ∷ 0 ∷ 0 ∷ 0 ∷ 0 ∷ 0 ∷ 0 ∷ 0 ∷ 0 ∷ 0 ∷ 0 ∷ 0 ∷ 0 ∷ 0 ∷ 0 ∷ 15 ∷ 0 ∷ 0 ∷ 0 ∷ 1 ∷ 0 ∷ 0 ∷ 0 ∷ 15 ∷ 0 ∷ 0 ∷ 0 ∷ 0 ∷ 0 ∷ 0 ∷ 0 ∷ 0 ∷ 0 ∷ 0 ∷ 0 ∷ 0 ∷ 0 ∷ 0 ∷ 0 ∷ 0 ∷ 0 ∷ 0 ∷ 80 ∷ 0 ∷ 0 ∷ 0 ∷ 0 ∷ []
 
 pub registers-four_with_table : registers_of (hll4_shape four_with_table) (drop 8 four_with_table) ≡ 20 ∷ replicate 15 0
 registers-four_with_table = refl
 
--- four bits, with a minimum of 0 though every register is 1
+-- 4-bit registers, with a minimum of 0 although every register is 1
 abbrev four_low_minimum : List ℕ
 four_low_minimum = 10 ∷ 1 ∷ 7 ∷ 4 ∷ 0 ∷ 8 ∷ 0 ∷ 2 ∷ 0 ∷ 0 ∷ 0 ∷ 0 ∷ 0 ∷ 0 ∷ 0 ∷ 0 ∷ 0 ∷ 0 ∷ 0 ∷ 0 ∷ 0 ∷ 0 ∷ 0 ∷ 0 ∷ 0 ∷ 0 ∷ 0 ∷ 0 ∷ 0 ∷ 0 ∷ 0 ∷ 0 ∷ 16 ∷ 0 ∷ 0 ∷ 0 ∷ 0 ∷ 0 ∷ 0 ∷ 0 ∷ 17 ∷ 17 ∷ 17 ∷ 17 ∷ 17 ∷ 17 ∷ 17 ∷ 17 ∷ []
 
 pub registers-four_low_minimum : registers_of (hll4_shape four_low_minimum) (drop 8 four_low_minimum) ≡ replicate 16 1
 registers-four_low_minimum = refl
 
--- four bits, with a minimum of 63
+-- 4-bit registers, with a minimum of 63
 abbrev four_all_63 : List ℕ
 four_all_63 = 10 ∷ 1 ∷ 7 ∷ 4 ∷ 0 ∷ 8 ∷ 63 ∷ 2 ∷ 0 ∷ 0 ∷ 0 ∷ 0 ∷ 0 ∷ 0 ∷ 0 ∷ 0 ∷ 0 ∷ 0 ∷ 0 ∷ 0 ∷ 0 ∷ 0 ∷ 0 ∷ 0 ∷ 0 ∷ 0 ∷ 0 ∷ 0 ∷ 0 ∷ 0 ∷ 0 ∷ 0 ∷ 16 ∷ 0 ∷ 0 ∷ 0 ∷ 0 ∷ 0 ∷ 0 ∷ 0 ∷ 0 ∷ 0 ∷ 0 ∷ 0 ∷ 0 ∷ 0 ∷ 0 ∷ 0 ∷ []
 
@@ -66,7 +66,7 @@ pub written-nibble_14 : hll4_bytes 4 (15 ∷ replicate 15 1) cleared_state [] �
     10 ∷ 1 ∷ 7 ∷ 4 ∷ 0 ∷ 24 ∷ 1 ∷ 2 ∷ 0 ∷ 0 ∷ 0 ∷ 0 ∷ 0 ∷ 0 ∷ 0 ∷ 0 ∷ 0 ∷ 0 ∷ 0 ∷ 0 ∷ 0 ∷ 0 ∷ 0 ∷ 0 ∷ 0 ∷ 0 ∷ 0 ∷ 0 ∷ 0 ∷ 0 ∷ 0 ∷ 0 ∷ 15 ∷ 0 ∷ 0 ∷ 0 ∷ 0 ∷ 0 ∷ 0 ∷ 0 ∷ 14 ∷ 0 ∷ 0 ∷ 0 ∷ 0 ∷ 0 ∷ 0 ∷ 0 ∷ []
 written-nibble_14 = refl
 
--- six bits, four registers in three bytes
+-- 6-bit registers, four in three bytes
 pub written-fields : hll6_bytes 4 (0 ∷ 63 ∷ 42 ∷ 51 ∷ replicate 12 0) cleared_state ≡
     10 ∷ 1 ∷ 7 ∷ 4 ∷ 0 ∷ 16 ∷ 0 ∷ 6 ∷ 0 ∷ 0 ∷ 0 ∷ 0 ∷ 0 ∷ 0 ∷ 0 ∷ 0 ∷ 0 ∷ 0 ∷ 0 ∷ 0 ∷ 0 ∷ 0 ∷ 0 ∷ 0 ∷ 0 ∷ 0 ∷ 0 ∷ 0 ∷ 0 ∷ 0 ∷ 0 ∷ 0 ∷ 13 ∷ 0 ∷ 0 ∷ 0 ∷ 0 ∷ 0 ∷ 0 ∷ 0 ∷ 192 ∷ 175 ∷ 206 ∷ 0 ∷ 0 ∷ 0 ∷ 0 ∷ 0 ∷ 0 ∷ 0 ∷ 0 ∷ 0 ∷ 0 ∷ []
 written-fields = refl
@@ -83,7 +83,7 @@ written-exception = refl
 
 -- ---- faults
 
--- four bits with an exception, in a table of 2^27 buckets
+-- 4-bit registers with an exception, in a table of 2^27 buckets
 abbrev table_of_27 : List ℕ
 table_of_27 = 10 ∷ 1 ∷ 7 ∷ 4 ∷ 27 ∷ 0 ∷ 0 ∷ 2 ∷ 0 ∷ 0 ∷ 0 ∷ 0 ∷ 0 ∷ 0 ∷ 0 ∷ 0 ∷ 0 ∷ 0 ∷ 0 ∷ 0 ∷ 0 ∷ 0 ∷ 0 ∷ 0 ∷ 0 ∷ 0 ∷ 0 ∷ 0 ∷ 0 ∷ 0 ∷ 0 ∷ 0 ∷ 15 ∷ 0 ∷ 0 ∷ 0 ∷ 1 ∷ 0 ∷ 0 ∷ 0 ∷ []
 
@@ -106,7 +106,7 @@ set_of_size_6 = 3 ∷ 1 ∷ 7 ∷ 8 ∷ 6 ∷ 8 ∷ 0 ∷ 9 ∷ 0 ∷ 0 ∷ 0 �
 pub fault-set_of_size_6 : IsFault set_of_size_6 LgArr
 fault-set_of_size_6 = set_table (omega arith) refl (record { low = omega arith; high = omega arith }) (λ t. omega (arith, t.high))
 
--- more zeros counted than there are registers
+-- a count of zeros above the number of registers
 abbrev zeros_above : List ℕ
 zeros_above = 10 ∷ 1 ∷ 7 ∷ 4 ∷ 0 ∷ 0 ∷ 0 ∷ 10 ∷ 0 ∷ 0 ∷ 0 ∷ 0 ∷ 0 ∷ 0 ∷ 0 ∷ 0 ∷ 0 ∷ 0 ∷ 0 ∷ 0 ∷ 0 ∷ 0 ∷ 0 ∷ 0 ∷ 0 ∷ 0 ∷ 0 ∷ 0 ∷ 0 ∷ 0 ∷ 0 ∷ 0 ∷ 17 ∷ 0 ∷ 0 ∷ 0 ∷ 0 ∷ 0 ∷ 0 ∷ 0 ∷ 0 ∷ 0 ∷ 0 ∷ 0 ∷ 0 ∷ 0 ∷ 0 ∷ 0 ∷ 0 ∷ 0 ∷ 0 ∷ 0 ∷ 0 ∷ 0 ∷ 0 ∷ 0 ∷ []
 
@@ -132,6 +132,6 @@ first-short_set_of_size_6 = refl
 pub first-zeros_above : first_fault zeros_above ≡ Some Count
 first-zeros_above = refl
 
--- what is written for sixteen registers of 0 at six bits has none
+-- what is written for sixteen 6-bit registers of 0 has no fault
 pub first-six_zeros : first_fault (hll6_bytes 4 (replicate 16 0) cleared_state) ≡ None
 first-six_zeros = refl

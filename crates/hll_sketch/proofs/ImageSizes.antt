@@ -1,5 +1,5 @@
 -- SPDX-License-Identifier: Apache-2.0
--- How many bytes an image has.
+-- The size of an image.
 use Rattle.std.proofs.Common.{◌≡◌, ◌≢◌, ℕ, ◌+◌, ◌*◌, ◌^◌, ◌≤◌, ◌<◌, zero, suc, true, false, cond, eqb, ◌⊎◌, inl, inr, List, ◌++◌, length, take, drop, Some, None, refl, sym, ap, subst, ◌∙◌, arith}
 use Rattle.std.proofs.lemmas.List.{take-append-drop, length-drop, length-append}
 use Rattle.std.proofs.Math.Seq.{take-append_seam}
@@ -37,7 +37,7 @@ bits_of_six (suc zero) h e = refl
 bits_of_six (suc (suc zero)) h e = absurd (cc)
 bits_of_six (suc (suc (suc n))) h e = absurd (omega arith)
 
--- ---- a front
+-- ---- a prefix
 
 -- by the stage and the width
 abbrev asked_by : List ℕ → ℕ → ℕ → ℕ
@@ -54,7 +54,7 @@ module _ (a t b : List ℕ) (e : a ++ t ≡ b) where
   width_as : (w : ℕ) → HasHeader a 2 → width_bits a ≡ w → asked_size b ≡ asked_by b 2 w
   width_as w h is = stage_as 2 h ∙ ap (asked_by b 2) (sym (same_width a t b e h.whole) ∙ is)
 
-  -- a front that is an image has the size that all the bytes ask for
+  -- a prefix that is an image has the size that the header and counts of all bytes say
   size_of_front : (x : Sketch) → Image a x → asked_size b ≡ length a
   size_of_front x (list is v) =
       omega (arith, stage_as 0 is.header, is.payload.size, ap (λ h. list_buckets h) (same_list_shape a t b e is.header.whole), length-drop 8 a, is.header.whole)
@@ -73,7 +73,7 @@ module _ (a t b : List ℕ) (e : a ++ t ≡ b) where
       let buckets = front_buckets (hll4_shape b) (drop 8 a) t (drop 8 b) (rest a t b e is.header.whole) payload.has_entries.whole in
       omega (arith, width_as 0 is.header is.width, payload.size, buckets, length-drop 8 a, is.header.whole)
 
--- bytes that are read have an image of that size in front
+-- bytes that are read begin with an image of that size
 pub size_is_asked : (b : List ℕ) (x : Sketch) → IsReadAs b x → IsSizeOfImage b (asked_size b)
 size_is_asked b x read =
     let a : List ℕ = take read.size b in
@@ -102,7 +102,7 @@ module _ (b : List ℕ) (x : Sketch) (read : IsReadAs b x) (h : Header) (has : H
   asked_at : (s : stages.Stage) → h.stage ≡ s → asked_size b ≡ asked_by b (number_of_stage s) (width_bits b)
   asked_at s e = ap (λ n. asked_by b n (width_bits b)) (stage_is s e)
 
-  -- the size of each
+  -- the size for each stage
   pub list_asked : h.stage ≡ stages.TheVariants.List → asked_size b ≡ 8 + 4 * list_buckets (list_shape b)
   list_asked e = asked_at stages.TheVariants.List e
 
@@ -124,7 +124,7 @@ module _ (b : List ℕ) (x : Sketch) (read : IsReadAs b x) (h : Header) (has : H
       let size : SetSize b = set_size b (header_at stages.TheVariants.Set e) (sized_if_read b x read) in
       omega (arith, size.table.high, has.lg_k.high, ap (λ (i : Header). i.lg_arr) is)
 
-  -- the exceptions of registers of four bits have a table of at most 2^26 buckets, where they stand in its buckets
+  -- the exceptions of 4-bit registers have a table of at most 2^26 buckets, if they are in its buckets
   pub four_table : h.stage ≡ stages.TheVariants.Hll → h.hll_type ≡ Hll4 → is_flagged 8 b ≡ false → exception_count (drop 8 b) ≢ 0 → h.lg_arr ≤ 26
   four_table e w gaps some =
       let header : HasHeader b 2 = header_at stages.TheVariants.Hll e in

@@ -1,5 +1,5 @@
 -- SPDX-License-Identifier: Apache-2.0
--- No image begins another, and an image has one meaning.
+-- No image is a proper prefix of another, and an image has one meaning.
 use Rattle.std.proofs.Common.{◌≡◌, ◌≢◌, ℕ, ◌/◌, ◌%◌, ◌<◌, ◌≤◌, eqb, List, ◌++◌, length, take, drop, refl, sym, ap, subst, ◌∙◌, arith}
 use Rattle.std.proofs.lemmas.List.{take-append-drop, take-append-le}
 use Rattle.hll_coupons.specs.Payload.{IsListPayload, IsSetPayload}
@@ -8,7 +8,7 @@ use Rattle.hll_registers.specs.Payload.{IsHll8Payload, IsHll6Payload, IsHll4Payl
 use Rattle.hll_arrays.proofs.Payloads.{one_hll8, one_hll6, one_hll4}
 use Rattle.hll_sketch.specs.Image.{byte, stage_bits, width_bits, HasHeader, list_shape, set_shape, hll4_shape, list_value, set_value, hll8_value, hll6_value, hll4_value, IsListImage, IsSetImage, IsHll8Image, IsHll6Image, IsHll4Image, list, set, hll8, hll6, hll4, OneImage}
 
--- ---- a front of at least eight bytes has the header of the whole
+-- ---- a prefix of at least eight bytes has the header of all bytes
 
 module _ (a t b : List ℕ) (e : a ++ t ≡ b) (whole : 8 ≤ length a) where
   pub at : (i : ℕ) → i < 8 → byte a i ≡ byte b i

@@ -1,5 +1,5 @@
 -- SPDX-License-Identifier: Apache-2.0
--- Registers of eight bits that take in other sketches in place.
+-- 8-bit registers into which other sketches are merged in place.
 use Rattle.std.proofs.Common.{◌≡◌, ℕ, ◌≤◌, true, false, ◌&&◌, nat_eq, refl, sym, ap, ◌∙◌, arith, inl, inr}
 use Rattle.std.specs.FinSet.{empty, len, len-empty}
 use Rattle.std.specs.Ordering.{nat_cmp}
@@ -13,7 +13,7 @@ use Rattle.hll_sketch.specs.Value.{Sketch, Content, coupons, registers, in_regis
 use Rattle.hll_sketch.proofs.Adding.{lg_k-merge}
 use Rattle.hll_sketch.proofs.Merges.{merged_whole, other_empty}
 
--- an empty union takes registers of eight bits whole
+-- an empty union becomes a copy of 8-bit registers
 pub merge-first : (m : ℕ) (x : Sketch) → IsGadget m x → in_registers x.content ≡ true → IsLegal x → merge m (empty_union m) x ≡ x
 merge-first m x gadget inside legal =
     cond-false (is_empty x) (empty_union m) (merge_content m (empty_union m) x x.content) (gadget.registers inside) ∙ of x.lg_k x.width x.content gadget inside legal
@@ -25,7 +25,7 @@ merge-first m x gadget inside legal =
         sym (merged_whole m (empty_union m) k R s (eq-eqb (len empty) 0 (len-empty nat_cmp)) gadget.lg_k refl legal.lg_k.high legal.content.0.size)
         ∙ (λ i. let y : Sketch = record { lg_k = k; width = sym gadget.width i; content = registers R s } in y)
 
--- a gadget in registers stays in registers
+-- a gadget with registers still has registers
 pub in_registers-merge : (m : ℕ) (g x : Sketch) → in_registers g.content ≡ true → is_empty g ≡ false → in_registers (merge m g x).content ≡ true
 in_registers-merge m g x inside some = elim (cases_Bool (is_empty x)) [
   | inl t ↦ ap (λ (y : Sketch). in_registers y.content) (cond-true (is_empty x) g (merge_content m g x x.content) t) ∙ inside
@@ -42,7 +42,7 @@ in_registers-merge m g x inside some = elim (cases_Bool (is_empty x)) [
         ∙ stay g.content inside
     of (registers R s) = refl
 
--- the lg_k stays, where no other is smaller
+-- the lg_k is unchanged if no other is smaller
 pub lg_k-merge_within : (m : ℕ) (g x : Sketch) → g.lg_k ≤ x.lg_k → (merge m g x).lg_k ≡ g.lg_k
 lg_k-merge_within m g x below = lg_k-merge m g x ∙ elim (cases_Bool (has_nonzero_registers x)) [
   | inl t ↦ cond-true (has_nonzero_registers x) (min g.lg_k x.lg_k) g.lg_k t ∙ (let least : min g.lg_k x.lg_k ≡ g.lg_k = omega (arith, below) in least)

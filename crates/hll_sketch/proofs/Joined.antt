@@ -1,5 +1,5 @@
 -- SPDX-License-Identifier: Apache-2.0
--- Canonical sketches merged in turn are joined, and stay canonical.
+-- Canonical sketches that are merged in turn give their `join_value`, and it is canonical.
 use Rattle.std.proofs.Math.Bool.{or-true}
 use Rattle.std.proofs.Common.{◌≡◌, ℕ, ◌++◌, ◌≤◌, Bool, true, false, cond, not, ◌&&◌, ◌||◌, nat_eq, eqb, leb, List, [], ◌∷◌, Some, None, refl, sym, ap, subst, ◌∙◌, arith, inl, inr, map, All}
 use Rattle.std.specs.Prelude.{min}
@@ -35,7 +35,7 @@ use Rattle.hll_sketch.proofs.Stages.{stage_again}
 
 -- ---- one merge
 
--- what the join so far is
+-- the union so far
 pub record SoFar (m e : ℕ) (P : Pairs) (any : Bool) : Type 0 where
   pub small : m ≤ 21
   pub below : e ≤ m
@@ -47,7 +47,7 @@ Means-join_value_of_pairs : (m : ℕ) (w : HllType) (e : ℕ) (P : Pairs) (any :
 Means-join_value_of_pairs m w e P true = refl
 Means-join_value_of_pairs m w e P false = Means-content_for m P P (stage m 3 (len P)) refl
 
--- a set from the start, and then more of it
+-- a set in the smallest table, and then more of it
 settled_again : (m : ℕ) (P S : Pairs) → content_with m (content_for m P (stage m 3 (len P))) S ≡ content_for m (union P S) (stage m 3 (len (union P S)))
 settled_again m P S =
     let from : Pairs → Content = λ T. content_for m T (stage m 3 (len T)) in
@@ -57,7 +57,7 @@ add-join_value_of_pairs : (m : ℕ) (w : HllType) (e : ℕ) (P S : Pairs) (any :
 add-join_value_of_pairs m w e P S true = λ i. record { lg_k = e; width = w; content = registers (sym (fold_to-union P S e) i) (state_after-cleared_state (fold_to P e) (join (fold_to P e) (fold_to S e)) i) }
 add-join_value_of_pairs m w e P S false = ap (λ c. let x : Sketch = record { lg_k = m; width = w; content = c } in x) (settled_again m P S)
 
--- coupons whole, into an empty gadget
+-- coupons copied with their table by an empty gadget
 whole : (m : ℕ) (w : HllType) (e l : ℕ) (P S : Pairs) (p : ℕ) (any : Bool) → SoFar m e P any → stage l 3 (len S) ≡ Some p → is_empty (join_value_of_pairs m w e P any) ≡ true → (join_value_of_pairs m w e P any).lg_k ≡ l →
     record (join_value_of_pairs m w e P any) { content = coupons S p } ≡ join_value_of_pairs m w e (union P S) any
 whole m w e l P S p true h canonical bare same = absurd (h.some refl (nothing e (join_value_of_pairs m w e P true).content P (omega (arith, h.small, h.below)) h.are refl bare))
@@ -124,7 +124,7 @@ merge_joint m e P any x h small canonical = elim (cases_Bool (is_empty x)) [
         (λ i. made (new i) (width-join_value_of_pairs m Hll8 e P any i) ((ap (fold_to (union (pairs_of y) (pairs R))) new ∙ all) i) (state_after_merge-cleared_state m y l s canonical i))
         ∙ sym (λ i. join_value_of_pairs m Hll8 (cond (has i) (min l e) e) (union P (pairs R)) ((ap (λ b. any || b) has ∙ or-true any) i))
 
--- ---- what stays true
+-- ---- what remains true
 
 has_some : (x : Sketch) → has_nonzero_registers x ≡ true → pairs_of x ≡ empty → ⊥
 has_some x h none = true≢false (sym h ∙ has_none x (eq-eqb (len (pairs_of x)) 0 (ap len none ∙ len-empty nat_cmp)))
@@ -162,14 +162,14 @@ pub width-changed : (m : ℕ) (w : HllType) (e : ℕ) (P : Pairs) (any : Bool) �
 width-changed m w e P true = refl
 width-changed m w e P false = refl
 
--- canonical sketches merged in turn are joined
+-- canonical sketches merged in turn give their `join_value`
 pub merge_of_canonical : MergeOfCanonical
 merge_of_canonical m xs small f =
     ap (λ g. merge_all m g xs) (start m)
     ∙ merge_all-join_value_of_pairs m m empty false xs (nothing-yet m small) f
     ∙ ap (λ P. join_value_of_pairs m Hll8 (least_lg_k m xs) P (list_any has_nonzero_registers xs)) (union-empty (all_pairs xs))
 
--- and read out at a width
+-- and so at a width
 pub merge_at_width : (m : ℕ) (w : HllType) (xs : List Sketch) → m ≤ 21 → AllByRecursion IsCanonicalOfPairs xs → record (merge_all m (empty_union m) xs) { width = w } ≡ join_value m w xs
 merge_at_width m w xs small f =
     ap (λ (x : Sketch). let y : Sketch = record x { width = w } in y) (merge_of_canonical m xs small f)
@@ -232,7 +232,7 @@ with_last : (xs : List Sketch) (x : Sketch) → AllByRecursion IsCanonicalOfPair
 with_last [] x f h = (h, tt)
 with_last (y ∷ xs) x f h = (f.0, with_last xs x f.1 h)
 
--- one more merged
+-- one more sketch is merged
 pub joined_more : (u v : UnionLayout) (x : Sketch) (xs : List Sketch) → v.lg_max_k ≡ u.lg_max_k → gadget_of v ≡ merge u.lg_max_k (gadget_of u) x → IsLegal x → IsMergeOf xs u → IsCanonicalCleared x →
     IsMergeOf (xs ++ x ∷ []) v
 joined_more u v x xs bound is legal join canonical =

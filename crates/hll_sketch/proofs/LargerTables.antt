@@ -15,7 +15,7 @@ use Rattle.hll_sketch.specs.Union.{sketch_of_registers}
 use Rattle.hll_sketch.proofs.LegalSketches.{found_in_range}
 use Rattle.hll_sketch.proofs.Promoting.{folded, folded-more}
 
--- a size that takes over from one that doesn't hold so many
+-- a size for n coupons, after one that doesn't hold them
 pub record IsLarger (k n q : ℕ) : Type 0 where
   pub low : 5 ≤ q
   pub high : q + 3 ≤ k

@@ -1,5 +1,5 @@
 -- SPDX-License-Identifier: Apache-2.0
--- An image means a legal sketch.
+-- The sketch of an image is legal.
 use Rattle.std.proofs.Common.{nat_lt, ◌≡◌, ℕ, ◌+◌, ◌-◌, ◌*◌, ◌%◌, ◌^◌, ◌<◌, ◌≤◌, zero, suc, Bool, true, false, eqb, List, [], ◌∷◌, length, get_or, drop, All, Option, Some, None, refl, sym, ap, subst, ◌∙◌, arith, inl, inr}
 use Rattle.std.specs.Int.{w32, w64, from_le_bytes}
 use Rattle.std.specs.Option.{option_map}
@@ -59,7 +59,7 @@ coupons_fit : (compact : Bool) (n : ℕ) (b : List ℕ) → AreBytes b → All F
 coupons_fit true n b h = raw_coupons_fit n b h
 coupons_fit false n b h = All-filter (λ c. nat_lt 0 c) Fits (raw_coupons n b) (raw_coupons_fit n b h)
 
--- what each of a list has, a member has
+-- what holds for each number of a list holds for each of its members
 member : (P : ℕ → Type 0) (xs : List ℕ) (c : ℕ) → All P xs → has c xs ≡ true → P c
 member P [] c h m = absurd (true≢false (sym m))
 member P (x ∷ xs) c h m = elim (or_cases (eq_by_cmp nat_cmp c x) (has c xs) m) [

@@ -1,5 +1,5 @@
 -- SPDX-License-Identifier: Apache-2.0
--- What a sketch keeps is a legal sketch value.
+-- What a sketch holds is a legal sketch value.
 use Rattle.std.proofs.Common.{◌≡◌, ℕ, ◌≤◌, ◌^◌, length, ap, inl, inr, arith}
 use Rattle.hll_coupons.specs.Table.{Table, coupons_in, IsTable}
 use Rattle.hll_base.specs.declared.hll_type.HllType.{HllType}

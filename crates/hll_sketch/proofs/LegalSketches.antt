@@ -1,5 +1,5 @@
 -- SPDX-License-Identifier: Apache-2.0
--- Legal sketches stay legal when pairs are added, or a sketch is merged.
+-- Legal sketches are still legal after pairs are added, or a sketch is merged.
 use Rattle.std.proofs.Common.{◌≡◌, ℕ, ◌+◌, ◌-◌, ◌*◌, ◌^◌, ◌<◌, ◌≤◌, inl, inr, zero, suc, Bool, true, false, cond, ◌&&◌, nat_eq, eqb, leb, List, [], ◌∷◌, Option, Some, None, length, get_or, All, refl, sym, ap, subst, ◌∙◌, arith}
 use Rattle.std.specs.Prelude.{min, find}
 use Rattle.std.specs.Cmp.Lexicographic.{pointwise}
@@ -27,7 +27,7 @@ use Rattle.hll_coupons.proofs.Unions.{contains_union}
 
 -- ---- sizes
 
--- what is found in a range, is in it and passes
+-- a number that is found in a range is in it and passes
 pub found_in_range : (f : ℕ → Bool) (a n q : ℕ) → find f (range_with_len a n) ≡ Some q → (a ≤ q) × (q < a + n) × (f q ≡ true)
 found_in_range f a zero q e = absurd (cc)
 found_in_range f a (suc n) q e = elim (cases_Bool (f a)) [

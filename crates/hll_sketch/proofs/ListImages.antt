@@ -7,7 +7,7 @@ use Rattle.hll_sketch.specs.Image.{table_byte, HasHeader, list_shape, IsListImag
 use Rattle.hll_sketch.proofs.Headers.{HasHeader-same}
 use Rattle.hll_sketch.proofs.Images.{at, same_list_shape}
 
--- a header and the payload of a list after it are an image
+-- a header followed by the payload of a list is an image
 pub list_image : (b : List ℕ) → HasHeader b 0 → table_byte b ≡ 3 → IsListPayload (list_shape b) (take (4 * list_buckets (list_shape b)) (drop 8 b)) → IsListImage (take (8 + 4 * list_buckets (list_shape b)) b)
 list_image b h table payload =
     let n : ℕ = 4 * list_buckets (list_shape b) in

@@ -1,5 +1,5 @@
 -- SPDX-License-Identifier: Apache-2.0
--- Lemmas on registers that a caller keeps.
+-- Lemmas on caller-owned registers.
 use Rattle.std.proofs.Common.{◌≡◌, ℕ, ◌*◌, ◌^◌, ◌<◌, ◌≤◌, ◌==◌, nat_eq, true, false, ◌&&◌, not, Option, Some, None, List, [], ◌∷◌, ◌++◌, length, refl, sym, ap, ◌∙◌, arith}
 use Rattle.std.specs.FinSet.{len, empty_of_len, insert, union}
 use Rattle.std.proofs.lemmas.Bool.{and_parts, eqb-true, true≢false}
@@ -20,14 +20,14 @@ use Rattle.hll_registers.proofs.Folding.{folded, folded-none}
 use Rattle.hll_sketch.specs.Value.{Sketch, coupons, registers, in_registers, is_empty, pairs_of, pairs_in, has_nonzero_registers}
 use Rattle.hll_coupons.proofs.Unions.{insert-union, set_of-nil}
 
--- ---- joins
+-- ---- maxima
 
 pub joined-nil : (V : List ℕ) (e : ℕ) → length V ≡ 2 ^ e → V ≡ join V (fold_to (set_of []) e)
 joined-nil V e size =
     let nothing : 0 * 2 ^ e ≡ 0 = omega arith in
     folded-none V [] e size ∙ ap (λ m. join V (folded [] e m)) nothing
 
--- where there are no pairs nothing changes
+-- without pairs nothing changes
 pub joined-none : (V : List ℕ) (P : Pairs) (e : ℕ) → length V ≡ 2 ^ e → len P ≡ 0 → V ≡ join V (fold_to P e)
 joined-none V P e size none = joined-nil V e size ∙ ap (λ Q. join V (fold_to Q e)) (set_of-nil ∙ sym (empty_of_len P none))
 
@@ -49,18 +49,18 @@ max_later V W cs c e is =
 
 -- ---- registers that are not all 0
 
--- what is empty has none
+-- an empty sketch has none
 pub none_nonzero : (x : Sketch) → is_empty x ≡ true → has_nonzero_registers x ≡ true → ⊥
 none_nonzero x none some = true≢false (sym (and_parts (in_registers x.content) (not (is_empty x)) some).1 ∙ ap not none)
 
--- nor have coupons
+-- neither have coupons
 pub coupons_nonzero : (x : Sketch) (S : Pairs) (size : ℕ) → x.content ≡ coupons S size → has_nonzero_registers x ≡ true → ⊥
 coupons_nonzero x S size is some = true≢false (sym (and_parts (in_registers x.content) (not (is_empty x)) some).0 ∙ ap in_registers is)
 
 pub registers_nonzero : (x : Sketch) → in_registers x.content ≡ true → is_empty x ≡ false → has_nonzero_registers x ≡ true
 registers_nonzero x inside some = λ i. inside i && not (some i)
 
--- ---- what is joined
+-- ---- what is merged
 
 -- the coupons of a sketch
 pub max_of_table : (k : ℕ) (x : Sketch) (old new : List ℕ) (S : Pairs) (size : ℕ) → x.content ≡ coupons S size → new ≡ join old (fold_to S k) → TakesMaxWithSketch k x old new None
@@ -76,14 +76,14 @@ max_of_zeros k l old R size zeros y s at is =
     let none : is_empty y ≡ true = ap (λ c. nat_eq (len (pairs_in c)) 0) is ∙ sym (zeros-empty R) ∙ zeros in
     takes_max (λ some. absurd (none_nonzero y none some)) (joined-none old (pairs_of y) k size (eqb-true _ 0 none))
 
--- others, where there are fewer
+-- other registers, if they are fewer
 pub max_of_fewer : (k l : ℕ) (old R : List ℕ) (e : ℕ) → l < k → e ≡ l → list_all (λ v. v == 0) R ≡ false → (y : Sketch) (s : EstimateState) → y.lg_k ≡ l → y.content ≡ registers R s →
     TakesMaxWithSketch k y old old (Some e)
 max_of_fewer k l old R e less known some y s at is =
     let not_empty : is_empty y ≡ false = ap (λ c. nat_eq (len (pairs_in c)) 0) is ∙ sym (zeros-empty R) ∙ some in
     has_fewer (registers_nonzero y (ap in_registers is) not_empty) (omega (arith, less, at)) (known ∙ sym at) refl
 
--- and where there are as many or more
+-- and if they are at least as many
 pub max_of_folds : (k l : ℕ) (old new R : List ℕ) → k ≤ l → new ≡ join old (fold_to (pairs R) k) → (y : Sketch) (s : EstimateState) → y.lg_k ≡ l → y.content ≡ registers R s → TakesMaxWithSketch k y old new None
 max_of_folds k l old new R enough is y s at there = takes_max (λ some. omega (arith, enough, at)) (is ∙ ap (λ P. join old (fold_to P k)) (sym (ap pairs_in there)))
 

@@ -1,5 +1,5 @@
 -- SPDX-License-Identifier: Apache-2.0
--- Registers that a sketch is joined into are those of the union of both.
+-- Registers into which a sketch is merged are those of the union of both.
 use Rattle.std.proofs.Common.{◌≡◌, ℕ, ◌≤◌, ◌&&◌, true, false, nat_eq, List, refl, sym, ap, subst, ◌∙◌, inl, inr}
 use Rattle.std.proofs.lemmas.Bool.{cases_Bool, cond-true, cond-false, eqb-true}
 use Rattle.hll_base.specs.Join.{join}
@@ -21,7 +21,7 @@ module _ (k : ℕ) (R new : List ℕ) (s : EstimateState) (are : AreRegisters k 
   abbrev own : Sketch
   own = record { lg_k = k; width = Hll8; content = registers R s }
 
-  -- a sketch of the new registers, in some state
+  -- a sketch of the new registers, in some estimate state
   abbrev IsNew : Sketch → Type 0
   IsNew y = (t : EstimateState) × (y ≡ record { lg_k = k; width = Hll8; content = registers new t })
 

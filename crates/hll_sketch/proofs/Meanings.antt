@@ -1,5 +1,5 @@
 -- SPDX-License-Identifier: Apache-2.0
--- Sketches that mean pairs: empty ones, with pairs added, with sketches merged.
+-- Sketches that stand for pairs: empty ones, with pairs added, with sketches merged.
 use Rattle.std.proofs.Common.{◌≡◌, ℕ, ◌≤◌, true, ◌&&◌, nat_eq, eqb, List, Option, Some, None, refl, sym, ap, ◌∙◌, arith, inl, inr}
 use Rattle.std.specs.Prelude.{min}
 use Rattle.std.specs.Ordering.{nat_cmp}
@@ -38,14 +38,14 @@ Means-content_with k (registers R s) P T m = ap (λ R. join R (fold_to T k)) m �
 pub ArePairs-empty : ArePairs empty
 ArePairs-empty c h = absurd (true≢false (sym h ∙ contains-empty nat_cmp c))
 
--- an empty sketch means no pairs
+-- an empty sketch stands for no pairs
 pub nothing : (k : ℕ) (c : Content) (P : Pairs) → k ≤ 21 → ArePairs P → Means k c P → eqb (len (pairs_in c)) 0 ≡ true → P ≡ empty
 nothing k (coupons S p) P small are m e = sym m ∙ empty_of_len S (eqb-true (len S) 0 e)
 nothing k (registers R s) P small are m e = fold_none k P are (ap (λ R. eqb (len (pairs R)) 0) (sym m) ∙ e)
 
 -- ---- sketches
 
--- a sketch that means these pairs
+-- a sketch that stands for these pairs
 pub record MeansPairs (x : Sketch) (P : Pairs) : Type 0 where
   pub small : x.lg_k ≤ 21
   pub are : ArePairs P

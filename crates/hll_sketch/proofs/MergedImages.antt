@@ -1,5 +1,5 @@
 -- SPDX-License-Identifier: Apache-2.0
--- Images merged into a gadget as they stand: coupons into registers, and registers.
+-- Images that are merged into a gadget without a copy: coupons into registers, and registers.
 use Rattle.std.proofs.Common.{arith, ◌≡◌, ℕ, ◌<◌, ◌==◌, true, false, cond, nat_eq, List, None, take, drop, refl, sym, ap, subst, ◌∙◌}
 use Rattle.std.specs.List.{list_all}
 use Rattle.std.specs.FinSet.{len}
@@ -55,7 +55,7 @@ module _ (m : ℕ) (g y : Sketch) (b order : List ℕ) (is : IsGadget m g) (insi
   still_gadget bytes legal =
       subst (IsGadget m) (sym as_content) (gadget_of_content m g of.sketch of.sketch.content refl some is legal (read_is_legal b of.sketch bytes of.read))
 
--- a union whose gadget became such a merge took in the image
+-- if the gadget of a union became such a merge, the image was merged into the union
 pub taken : (u v : UnionLayout) (b : List ℕ) → v.lg_max_k ≡ u.lg_max_k → MergesImage u.lg_max_k (gadget_of u) (gadget_of v) b → MergesIn u v b
 taken u v b bound is = record {
   sketch = is.sketch;
@@ -67,7 +67,7 @@ taken u v b bound is = record {
 
 -- ---- registers
 
--- registers that are all 0 are none
+-- registers that are all 0 have no pairs
 pub no_registers : (b : List ℕ) (x : Stored) (of : IsOfRegisters b x) → is_empty of.sketch ≡ list_all (λ v. v == 0) x.registers
 no_registers b x of = ap (λ c. nat_eq (len (pairs_in c)) 0) of.content ∙ sym (zeros-empty x.registers)
 
@@ -94,15 +94,15 @@ registers_taken u v b x of some bound merged bytes =
           ∙ sym (cond-false (is_empty of.sketch) g (merge_content m g of.sketch of.sketch.content) some);
     })
 
--- ---- what may need memory
+-- ---- what may need an allocation
 
--- bytes are read as one sketch alone
+-- bytes are read as only one sketch
 pub one_read : (b : List ℕ) (x y : Sketch) → IsReadAs b x → IsReadAs b y → x ≡ y
 one_read b x y here there =
     (one_image (take here.size b) (take there.size b) (drop here.size b) (drop there.size b) x y here.image there.image
     (take-append-drop here.size b ∙ sym (take-append-drop there.size b))).1
 
--- registers of an image need it where their merge does
+-- registers of an image need one if merging them does
 pub registers_need : (g : Sketch) (b : List ℕ) (x : Stored) (of : IsOfRegisters b x) → is_empty of.sketch ≡ false → ContentNeedsMemory g g.content x.lg_k (registers x.registers x.state)
     → ImageNeedsMemory g b
 registers_need g b x of some content = record {
@@ -115,7 +115,7 @@ registers_need g b x of some content = record {
   });
 }
 
--- registers of four bits need it for their exceptions
+-- 4-bit registers need one for their exceptions
 pub four_bits_need : (g : Sketch) (b : List ℕ) → HasHeader b 2 → size_fault b ≡ None → (HasPlainRegisters b → ⊥) → ImageNeedsMemory g b
 four_bits_need g b has sized other = record {
   sized = sized;
@@ -124,6 +124,6 @@ four_bits_need g b has sized other = record {
   registers = λ plain x read. absurd (other plain);
 }
 
--- coupons need it, unless they go into registers without a table
+-- coupons need one, unless they are added to registers without a table
 pub coupons_need : (g : Sketch) (b : List ℕ) → stage_bits b < 2 → size_fault b ≡ None → (in_registers g.content ≡ true → HasCompactCoupons b → ⊥) → (in_registers g.content ≡ true → HasUpdatableCoupons b → ⊥) → ImageNeedsMemory g b
 coupons_need g b stage sized compact placed = record { sized = sized; coupons = compact; buckets = placed; registers = λ plain x read. absurd (omega (arith, plain.0, stage)) }

@@ -34,7 +34,7 @@ use Rattle.hll_sketch.proofs.LegalSketches.{found_in_range}
 use Rattle.hll_sketch.proofs.Stages.{holds_fewer}
 use Rattle.hll_sketch.proofs.Steps.{stage_stays}
 
--- the maximum taken in place
+-- the maximum is taken in place
 pub maxed_in_place : (g : Sketch) (x : Stored) (k : ℕ) (R : List ℕ) → g.content ≡ registers x.registers x.state → x.lg_k ≡ g.lg_k → g.lg_k ≤ 21 → length x.registers ≡ 2 ^ x.lg_k → x.lg_k ≤ k →
     record g { content = registers (join x.registers (fold_to (pairs R) x.lg_k)) cleared_state } ≡ max_registers g k R cleared_state
 maxed_in_place g x k R is same small size below =
@@ -49,7 +49,7 @@ maxed_in_place g x k R is same small size below =
       content = registers ((all ∙ ap (fold_to (union P (pairs R))) least) i) cleared_state;
     }
 
--- the maximum with the fold of the gadget
+-- the maximum with the fold of the gadget is taken
 maxed_aside : (g : Sketch) (e k : ℕ) (R : List ℕ) (t : EstimateState) → e ≡ min g.lg_k k →
     record g { lg_k = e; content = registers (join (fold_to (pairs_of g) e) (fold_to (pairs R) e)) t } ≡ max_registers g k R t
 maxed_aside g e k R t least = λ i. record g {
@@ -57,7 +57,7 @@ maxed_aside g e k R t least = λ i. record g {
   content = registers ((sym (fold_to-union (pairs_of g) (pairs R) e) ∙ ap (fold_to (union (pairs_of g) (pairs R))) least) i) t;
 }
 
--- registers taken whole by an empty gadget
+-- registers are copied by an empty gadget
 pub merged_whole : (bound : ℕ) (g : Sketch) (k : ℕ) (R : List ℕ) (s : EstimateState) → is_empty g ≡ true → k ≤ bound → g.lg_k ≡ bound → k ≤ 21 → length R ≡ 2 ^ k →
     record g { lg_k = k; content = registers R s } ≡ merge_registers bound g k R s
 merged_whole bound g k R s none below at small size =
@@ -69,19 +69,19 @@ merged_whole bound g k R s none below at small size =
       content = registers ((sym (fold_to-pairs R k small size) ∙ ap (λ P. fold_to P k) (sym bare) ∙ ap (fold_to (union (pairs_of g) (pairs R))) least) i) (state i);
     }
 
--- coupons added, where the gadget has some or is of another lg_k
+-- coupons are added, if the gadget has some or has another lg_k
 pub coupons_added : (g x y : Sketch) (T : Pairs) → (is_empty g && nat_eq g.lg_k x.lg_k) ≡ false → pairs_of x ≡ T → y ≡ add g T → y ≡ merge_coupons g x
 coupons_added g x y T other is e =
     e ∙ ap (add g) (sym is) ∙ sym (cond-false (is_empty g && nat_eq g.lg_k x.lg_k) (record g { content = x.content }) (add g (pairs_of x)) other)
 
--- coupons in turn are added at once, where there is one
+-- adding coupons in turn is adding them at once, if there is at least one
 pub in_turn : (g : Sketch) (order : List ℕ) → (len (set_of order) ≡ 0 → ⊥) → add_in_turn g order ≡ add g (set_of order)
 in_turn g [] some = absurd (some (ap len set_of-nil ∙ len-empty nat_cmp))
 in_turn g (c ∷ cs) some = add_each g c cs
 
 -- ---- room
 
--- the size that a count stays at holds it
+-- a size that is kept for a count of coupons holds them
 pub stays_held : (k p q n : ℕ) → stage k p n ≡ Some q → can_hold q n ≡ true
 stays_held k p q n e = elim (cases_Bool (leb p 3 && can_hold 3 n)) [
   | inl t ↦
@@ -115,7 +115,7 @@ registers_in_turn g (y ∷ ys) h = registers_in_turn (add g (set_of (y ∷ [])))
     stay (coupons S p) h = absurd (cc)
     stay (registers R s) h = refl
 
--- the size stays
+-- the size is kept
 in_turn_stays : (g : Sketch) (S : Pairs) (p : ℕ) (ys zs : List ℕ) → g.content ≡ coupons S p → IsSize g.lg_k p → can_hold p (len (union S (set_of (ys ++ zs)))) ≡ true →
     (add_in_turn g ys).content ≡ coupons (union S (set_of ys)) p
 in_turn_stays g S p [] zs is size room = is ∙ ap (λ T. coupons T p) (sym (union_none S))
@@ -130,7 +130,7 @@ size_of_legal k n p (inr large) = inr (large.0, large.1)
 
 -- ---- what the code makes
 
--- the state of registers merged aside
+-- the estimate state of registers in a copy
 pub state_kept : (bound : ℕ) (g : Sketch) (k : ℕ) (s : EstimateState) → is_empty g ≡ true → k ≤ bound → s ≡ state_after_merge bound g k s
 state_kept bound g k s none below = sym (ap (λ b. cond (b && leb k bound) s cleared_state) none ∙ cond-true (leb k bound) s cleared_state (le-leb k bound below))
 
@@ -173,7 +173,7 @@ whole_as bound l y a source none gadget copied same below small size =
     (λ i. let z : Sketch = record { lg_k = (same ∙ ap (λ (s : Stored). s.lg_k) copied) i; width = sym gadget.width i; content = registers (copied i).registers (copied i).state } in z)
     ∙ merged_whole bound g source.lg_k source.registers source.state none below (gadget.coupons bare) small size
 
--- ---- what needs memory
+-- ---- what needs an allocation
 
 pub needs_whole : (y : SketchLayout) (k : ℕ) (c : Content) (T : Pairs) (q : ℕ) → c ≡ coupons T q → is_empty (sketch_of y) ≡ true → y.lg_k ≡ k →
     (in_registers (content_in y.layout) ≡ true → is_empty (sketch_of y) ≡ false) → ContentNeedsMemory (sketch_of y) (content_in y.layout) k c
@@ -234,7 +234,7 @@ merged_next m g [] i d l = absurd (omega (arith, l))
 merged_next m g (x ∷ xs) zero d l = refl
 merged_next m g (x ∷ xs) (suc i) d l = merged_next m (merge m g (sketch_of x)) xs i d (omega (arith, l))
 
--- one more, after others
+-- one more sketch, after others
 pub merged_more : (m : ℕ) (g : Sketch) (xs : List SketchLayout) (i : ℕ) (d : SketchLayout) → i < length xs →
     merge m (merge_all m g (map sketch_of (take i xs))) (sketch_of (get_or xs i d)) ≡ merge_all m g (map sketch_of (take (i + 1) xs))
 merged_more m g xs i d l = merged_next m g xs i d l ∙ ap (λ n. merge_all m g (map sketch_of (take n xs))) (let next : suc i ≡ i + 1 = omega arith in next)

@@ -22,7 +22,7 @@ use Rattle.hll_sketch.proofs.FrontImages.{list_is_read, set_is_read}
 use Rattle.hll_sketch.proofs.ListImages.{list_image}
 use Rattle.hll_sketch.proofs.SizedImages.{passing}
 
--- coupons in a number that isn't 0 are some
+-- a number of coupons that isn't 0 gives a set that isn't empty
 some_placed : (n : ℕ) (buckets : List ℕ) → 1 ≤ n → HoldCoupons n buckets → len (set_of (coupons_in buckets)) ≡ 0 → ⊥
 some_placed n buckets some hold none = omega (arith, some, hold.are.distinct, hold.number, none)
 
@@ -43,7 +43,7 @@ list_of_buckets b n h table count filled loose some few there hold =
       some = some_placed n (raw_coupons 8 (drop 8 b)) some hold;
     }
 
--- and those in the buckets of an updatable set
+-- and the same for those in the buckets of an updatable set
 pub set_of_buckets : (b : List ℕ) (n : ℕ) → HasHeader b 1 → HasSetTable b → 4 ≤ length (drop 8 b) → n ≡ set_count (drop 8 b) → is_flagged 8 b ≡ false →
     1 ≤ n → n < 2 ^ table_byte b → 4 * 2 ^ table_byte b ≤ length (drop 4 (drop 8 b)) → HoldCoupons n (raw_coupons (2 ^ table_byte b) (drop 4 (drop 8 b))) →
     IsOfCoupons b (coupons_in (raw_coupons (2 ^ table_byte b) (drop 4 (drop 8 b))))

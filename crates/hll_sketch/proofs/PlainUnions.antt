@@ -1,5 +1,5 @@
 -- SPDX-License-Identifier: Apache-2.0
--- Unions of sketches with plain states.
+-- Unions of sketches with plain estimate states.
 use Rattle.std.proofs.Common.{◌≡◌, ℕ, inl, inr, ◌^◌, ◌≤◌, Bool, true, false, cond, ◌&&◌, nat_eq, leb, min, List, [], ◌∷◌, length, map, Option, Some, None, refl, sym, ap, subst, ◌∙◌, arith}
 use Rattle.std.specs.FinSet.{union, len, contains-empty, len-empty}
 use Rattle.std.specs.List.{AllByRecursion}
@@ -25,13 +25,13 @@ use Rattle.hll_sketch.proofs.LegalSketches.{merge_is_legal}
 use Rattle.hll_sketch.proofs.Merges.{merged_whole}
 use Rattle.hll_sketch.proofs.SetFields.{fields_keep, same_fields_of_sketches}
 
--- ---- one content, with its state cleared
+-- ---- one content, with its estimate state cleared
 
 same_pairs : (c : Content) → pairs_in (cleared_content c) ≡ pairs_in c
 same_pairs (coupons S size) = refl
 same_pairs (registers R s) = refl
 
--- what coupons become has the cleared state
+-- what coupons become has the cleared estimate state
 cleared_for : (k : ℕ) (S : Pairs) (o : Option ℕ) → cleared_content (content_for k S o) ≡ content_for k S o
 cleared_for k S (Some size) = refl
 cleared_for k S None = refl
@@ -54,9 +54,9 @@ plain_with k (registers R s) T plain = of (join R (fold_to T k)) (pointwise nat_
     of Q true e = subst (λ P. HasPlainState (registers P s)) ((same_decides R Q).0 e) plain
     of Q false e = inl refl
 
--- ---- a sketch merged
+-- ---- a sketch is merged
 
--- a gadget whose state is plain
+-- a gadget whose estimate state is plain
 record IsPlainGadget (m : ℕ) (g : Sketch) : Type 0 where
   gadget : IsGadget m g
   legal : IsLegal g
@@ -135,7 +135,7 @@ module _ (m : ℕ) (g : Sketch) (is : IsPlainGadget m g) where
             (content_plain x.lg_k x.width x.content plain.legal.lg_k.high plain.legal.content plain.state);
       }
 
--- ---- all
+-- ---- all sketches
 
 all_plain : (m : ℕ) (g : Sketch) (xs : List Sketch) → IsPlainGadget m g → AllByRecursion IsPlain xs → IsPlainGadget m (merge_all m g xs) × (cleared (merge_all m g xs) ≡ merge_all m (cleared g) (map cleared xs))
 all_plain m g [] is plain = (is, refl)
@@ -145,7 +145,7 @@ all_plain m g (x ∷ xs) is plain =
 
 -- ---- fields
 
--- of registers with the cleared state, one sketch has the fields set
+-- if registers have the cleared state, one sketch has their fields set
 itself : (c : Content) → HasClearedState c → HaveSameRegisters c c
 itself (coupons S size) is = absurd is
 itself (registers R s) is = refl
@@ -156,7 +156,7 @@ one_filled x y z (filled c v) (stays n e) = absurd (n c)
 one_filled x y z (stays n e) (filled c v) = absurd (n c)
 one_filled x y z (stays n e) (stays m f) = e ∙ sym f
 
--- with a plain state it has its fields set as with the cleared one
+-- with a plain state, setting the fields gives what it gives with the cleared state
 fills_cleared : (k : ℕ) (w : HllType) (c : Content) (y : Sketch) → HasPlainState c → let x : Sketch = record { lg_k = k; width = w; content = c } in FillsFields x y → FillsFields (cleared x) y
 fills_cleared k w (coupons S size) y plain fills = fills
 fills_cleared k w (registers R s) y plain (filled c sets) = filled refl (record { lg_k = sets.lg_k; width = sets.width; content = sets.content })

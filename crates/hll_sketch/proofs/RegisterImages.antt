@@ -1,5 +1,5 @@
 -- SPDX-License-Identifier: Apache-2.0
--- Lemmas on images of registers that are made of images of registers.
+-- Lemmas on images of registers that are made from images of registers.
 use Rattle.std.proofs.Common.{◌≡◌, ℕ, List, refl, sym, ap, subst, ◌∙◌}
 use Rattle.hll_base.specs.declared.hll_type.HllType.{HllType}
 use Rattle.hll_registers.specs.Payload.{WritesRegisters}
@@ -11,7 +11,7 @@ use Rattle.hll_sketch.specs.MergedIn.{IsOfRegisters}
 use Rattle.hll_sketch.specs.RegisterImages.{FillsState, fills, keeps, IsFilledImageOf}
 use Rattle.hll_sketch.specs.Value.{Sketch, registers}
 
--- what is written for the registers of an image, with this state, is its image with the fields set
+-- what is written for the registers of an image, with this estimate state, is its image with the fields set
 pub filled_image : (b image : List ℕ) (width : HllType) (x : Stored) (t : EstimateState) → IsOfRegisters b x → width_of_bits (width_bits b) ≡ width → FillsState x t
     → WritesRegisters image x.lg_k width x.registers t → IsFilledImageOf width b image
 filled_image b image width x t of has state written =

@@ -84,7 +84,7 @@ union_of_same m w xs ys same =
     let least_same : least_lg_k m xs ≡ least_lg_k m ys = omega arith in
     λ i. join_value_of_pairs m w (least_same i) (pairs_same i) (any_same i)
 
--- ---- some joined first
+-- ---- some sketches merged first
 
 all_pairs-append : (ys xs : List Sketch) → all_pairs (ys ++ xs) ≡ union (all_pairs ys) (all_pairs xs)
 all_pairs-append [] xs = sym (union-empty (all_pairs xs))
@@ -129,7 +129,7 @@ module _ (m : ℕ) (v w : HllType) (a : ℕ) (A : Pairs) (xs : List Sketch) wher
   abbrev in_xs : Bool
   in_xs = list_any has_nonzero_registers xs
 
-  -- registers at a first, and then the others
+  -- registers at a first, and then the other sketches
   first_registers : a ≤ 21 → ArePairs A → (A ≡ empty → ⊥) → join_value m w (record { lg_k = a; width = v; content = registers (fold_to A a) cleared_state } ∷ xs) ≡ join_value_of_pairs m w (min a n) (union A X) true
   first_registers small are some =
       let y : Sketch = record { lg_k = a; width = v; content = registers (fold_to A a) cleared_state } in

@@ -1,5 +1,5 @@
 -- SPDX-License-Identifier: Apache-2.0
--- Lemmas on sketches with the fields that a composite estimator reads.
+-- Lemmas on sketches with their estimator fields.
 use Rattle.std.proofs.Common.{◌≡◌, ℕ, false, List, None, refl, sym, ap, subst, ◌∙◌}
 use Rattle.std.proofs.lemmas.Bool.{true≢false}
 use Rattle.hll_base.specs.declared.hll_type.HllType.{HllType}
@@ -35,7 +35,7 @@ fields_keep = record {
   };
 }
 
--- registers with their fields set, whatever the state before
+-- registers with their fields set, whatever the estimate state was before
 same_fields : (x y p q : Content) → HaveSameRegisters x y → SetsFieldsIn x p → SetsFieldsIn y q → p ≡ q
 same_fields (registers R s) (registers Q t) p q same v w =
     v.2 ∙ (λ i. registers (same i) (one_estimator_state R v.0 w.0 v.1 (subst (λ S. AreEstimatorFields S w.0) (sym same) w.1) i)) ∙ sym w.2
@@ -73,7 +73,7 @@ pub same_registers_same_bytes : SameRegistersSameBytes
 same_registers_same_bytes x y p q a b lx ly k width same v w wa wb =
     one_written p a b (fields_keep.legal x p v lx) wa (subst (Written b) (sym (same_fields_of_sketches x y p q k width same v w)) wb)
 
--- without fields to set the layout stays
+-- without fields to set the layout is unchanged
 pub same_layout : (x : SketchLayout) → AreFieldsIn (content_in x.layout) None → (s : EstimateState) × (x ≡ record x { layout = with_state x.layout s })
 same_layout x h = (cleared_state, λ i. record x { layout = stays x.layout h i })
   where
@@ -82,7 +82,7 @@ same_layout x h = (cleared_state, λ i. record x { layout = stays x.layout h i }
     stays (set w t) h = refl
     stays (array w x e) h = absurd (let both = h.2 in cc)
 
--- what is not in registers has no state
+-- a sketch without registers has no estimate state
 no_state : (x : Content) → in_registers x ≡ false → HasClearedState x → ⊥
 no_state (coupons S size) out cleared = cleared
 no_state (registers R s) out cleared = true≢false out
@@ -91,7 +91,7 @@ no_state (registers R s) out cleared = true≢false out
 pub coupons_stay : (x : Sketch) → in_registers x.content ≡ false → FillsFields x x
 coupons_stay x out = stays (no_state x.content out) refl
 
--- a layout has a state of its own to keep
+-- a layout has an estimate state of its own to keep
 pub own_layout : (x : SketchLayout) → (s : EstimateState) × (x ≡ record x { layout = with_state x.layout s })
 own_layout x = let own = of x.layout in (own.0, λ i. record x { layout = own.1 i })
   where

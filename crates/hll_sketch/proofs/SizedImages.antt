@@ -18,12 +18,12 @@ use Rattle.std.proofs.lemmas.Bool.Decides.{Decides-eqb, Decides-ltb}
 use Rattle.hll_sketch.proofs.FirstFailing.{none_before, after_list, after_set, size_after}
 use Rattle.hll_sketch.proofs.FirstFaults.{faultless_is_image}
 
--- where a check doesn't fail, it passes, and none of those after it fails
+-- if a check doesn't fail, it passes, and none of the checks after it fails
 pub passing : {P : Type 0} (t : Bool) (s : Reason) (o : Option Reason) → Decides t P → cond t o (Some s) ≡ None → P × (o ≡ None)
 passing true s o d none = (d.0 refl, none)
 passing false s o d none = let other : Some s ≡ None = none in absurd (cc)
 
--- none of what chooses and measures fails, if none of all
+-- if no check fails, none of the checks of header and size fails
 sized_if_faultless : (hs ss cs : List Check) → first_failing (hs ++ (ss ++ cs)) ≡ None → first_failing (hs ++ ss) ≡ None
 sized_if_faultless [] ss cs none = none_before ss cs none
 sized_if_faultless (h ∷ hs) ss cs none = of h.passes (sized_if_faultless hs ss cs) none
@@ -33,7 +33,7 @@ sized_if_faultless (h ∷ hs) ss cs none = of h.passes (sized_if_faultless hs ss
     of true further n = further n
     of false further n = n
 
--- bytes that are read as a sketch have the size that they ask for
+-- bytes that are read as a sketch have the size that their header and counts say
 pub sized_if_read : (b : List ℕ) (x : Sketch) → IsReadAs b x → size_fault b ≡ None
 sized_if_read b x read = sized_if_faultless (header_checks b) (checks_after b).size (checks_after b).content ((faultless_is_image b).1 (x, read))
 
@@ -71,7 +71,7 @@ set_size b h none =
 abbrev raw_coupons_by : List ℕ → ℕ → List ℕ
 raw_coupons_by b stage = cond (eqb stage 0) (raw_coupons (state_byte b) (drop 8 b)) (raw_coupons (set_count (drop 8 b)) (drop 4 (drop 8 b)))
 
--- those of a list are there
+-- the raw coupons of a list are there
 pub list_there : (b : List ℕ) → HasHeader b 0 → HasCompactCoupons b → (1 ≤ state_byte b) × (4 * state_byte b ≤ length (drop 8 b))
 list_there b h up =
     let size : ListSize b = list_size b h up.sized in
@@ -90,17 +90,17 @@ set_there b h up =
     let buckets : set_buckets (set_shape b) (drop 8 b) ≡ set_count (drop 8 b) = λ i. set_buckets (shape_of_set (table_byte b) (up.compact i)) (drop 8 b) in
     (some, omega (arith, size.there, size.whole, buckets, length-drop 8 b, length-drop 4 (drop 8 b)))
 
--- what follows from what holds where there is nothing
+-- what follows if a result is None
 pub IfNone_then : {X : Type 0} (r : Option X) {P Q : Type 0} → IfNone r P → (P → Q) → IfNone r Q
 IfNone_then None h f = f h
 IfNone_then (Some x) h f = tt
 
--- what holds of each error
+-- what holds for each error
 pub IfErr-each : {T E : Type 0} (r : Result T E) {P : E → Type 0} → ((e : E) → P e) → IfErr r P
 IfErr-each (Ok x) h = tt
 IfErr-each (Err e) h = h e
 
--- two clauses of one refusal
+-- two clauses of one error
 pub both_err : {T E : Type 0} (r : Result T E) (P Q : E → Type 0) → IfErr r P → IfErr r Q → IfErr r (λ e. P e × Q e)
 both_err (Ok x) P Q p q = tt
 both_err (Err e) P Q p q = (p, q)

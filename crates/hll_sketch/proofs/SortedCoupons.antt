@@ -20,7 +20,7 @@ use Rattle.hll_sketch.proofs.BorrowedCoupons.{increasing_coupons}
 use Rattle.hll_sketch.proofs.CouponImages.{ascends_after}
 use Rattle.hll_sketch.proofs.Differing.{one_more}
 
--- the raw coupons so far are the numbers in front
+-- the raw coupons so far are the first numbers
 pub record ReadSoFar (index count : ℕ) (b cursor numbers : List ℕ) : Type 0 where
   pub after : cursor ≡ drop (4 * index) b
   pub left : 4 * (count - index) ≤ length cursor
@@ -39,13 +39,13 @@ read_more index count b cursor numbers so less few w rest is rest_is = record {
   read = take_more_set numbers index w (omega (arith, less, few, so.size)) ∙ ap (λ ws. ws ++ w ∷ []) so.read ∙ sym (one_more index w b cursor so.after is);
 }
 
--- ---- what the sorted numbers tell of the raw coupons
+-- ---- what the sorted numbers say of the raw coupons
 
 -- a sorted copy has the same members
 pub sorted_members : (all copy ys : List ℕ) → copy ≡ all → IsPermutation copy ys → set_of ys ≡ set_of all
 sorted_members all copy ys same p = set_of-permutation copy ys p ∙ ap set_of same
 
--- a list of which the sorted copy ascends from the last number without a value is one of coupons
+-- if the sorted copy of a list ascends from the last number with the value 0, the list is one of coupons
 pub coupons_from_sorted : (all copy ys : List ℕ) → copy ≡ all → IsPermutation copy ys → IsStrictlyIncreasing ((2 ^ 26 - 1) ∷ ys) → AreCoupons all
 coupons_from_sorted all copy ys same p up =
     let q : IsPermutation all ys = subst (λ xs. IsPermutation xs ys) same p in
@@ -64,7 +64,7 @@ sorted_from_coupons all copy (y ∷ ys) same p up are =
 
 -- ---- images without evident coupons
 
--- the raw coupons of a compact image that neither ascend nor are few coupons are none that one pass tells to be such
+-- if the raw coupons of a compact image neither ascend nor are few, one pass does not show that they are coupons
 pub not_evident : (b xs : List ℕ) → xs ≡ raw_coupons_in b → is_flagged 8 b ≡ true → (IsStrictlyIncreasing ((2 ^ 26 - 1) ∷ xs) → ⊥) → (length xs ≤ 128 → AreCoupons xs → ⊥)
     → HasEvidentCoupons b → ⊥
 not_evident b xs same compact falls apart (inl has) = elim (subst AreEvidentlyCoupons (sym same) has.evident) [ inl up ↦ falls up | inr few ↦ apart few.0 few.1 ]

@@ -1,5 +1,5 @@
 -- SPDX-License-Identifier: Apache-2.0
--- Worked stages at lg_k 8, 10 and 4, as docs/MODEL.md tells them.
+-- Examples of stages at lg_k 8, 10 and 4, as in docs/MODEL.md.
 use Rattle.std.proofs.Common.{◌≡◌, Some, None, refl}
 use Rattle.hll_sketch.specs.Stage.{stage}
 

@@ -6,11 +6,11 @@ use Rattle.std.specs.List.{range_with_len}
 use Rattle.std.proofs.lemmas.Bool.{leb-true, le-leb, lt-leb, cases_Bool, and_parts, and_from, and_left, cond-true, cond-false, false_from_ne_true, true≢false}
 use Rattle.hll_sketch.specs.Stage.{sizes, can_hold, stage}
 
--- a size that does not pass is passed over
+-- a size that does not pass is skipped
 pub find_later : (f : ℕ → Bool) (c m n : ℕ) → m ≡ suc n → f c ≡ false → find f (range_with_len c m) ≡ find f (range_with_len (c + 1) n)
 find_later f c m n e fails = ap (λ k. find f (range_with_len c k)) e ∙ cond-false (f c) (Some c) (find f (range_with_len (c + 1) n)) fails
 
--- what holds more holds less
+-- a size that holds more holds fewer
 pub holds_fewer : (q n m : ℕ) → n ≤ m → can_hold q m ≡ true → can_hold q n ≡ true
 holds_fewer q n m le =
     elim (eqb q 3) as (λ b. cond b (leb m 7) (leb (4 * m) (3 * 2 ^ q)) ≡ true → cond b (leb n 7) (leb (4 * n) (3 * 2 ^ q)) ≡ true) [
@@ -74,7 +74,7 @@ none_more p n m (x ∷ xs) le e = elim (cases_Bool (fits p n x)) [
       ∙ none_more p n m xs le (sym (cond-false (fits p n x) (Some x) (find (fits p n) xs) later) ∙ e)
 ]
 
--- from the size that n pairs need, m pairs go on to the size that they need from the start
+-- from the size that n pairs need, m pairs get the size that they need from the start
 pub stage_again : (k p q n m : ℕ) → n ≤ m → stage k p n ≡ Some q → stage k q m ≡ stage k p m
 stage_again k p q n m le e = again 0 p q n m (sizes k) (Rising-sizes k) le e
 

@@ -1,5 +1,5 @@
 -- SPDX-License-Identifier: Apache-2.0
--- One step suffices: where a table holds its coupons its size stays, else the next size holds them, or registers take over.
+-- One step is enough: a size that holds the coupons is kept, else the next size holds them, or they become registers.
 use Rattle.std.proofs.Common.{◌≡◌, ℕ, ◌+◌, ◌-◌, ◌*◌, ◌^◌, ◌≤◌, ◌<◌, zero, suc, Bool, true, false, ◌&&◌, eqb, leb, length, Some, None, refl, sym, ap, subst, ◌∙◌, arith, inl, inr}
 use Rattle.std.specs.Prelude.{find}
 use Rattle.std.specs.List.{range_with_len}
@@ -31,7 +31,7 @@ too_many p n many = and_right (leb p p) (can_hold p n) many
 past_three : (k p n : ℕ) → fits p n 3 ≡ false → stage k p n ≡ find (fits p n) (range_with_len 5 (k - 7))
 past_three k p n e = cond-false (fits p n 3) (Some 3) (find (fits p n) (range_with_len 5 (k - 7))) e
 
--- coupons that a table holds stay in it
+-- coupons that a table holds keep their table
 pub stage_stays : (k p n : ℕ) → IsSize k p → can_hold p n ≡ true → stage k p n ≡ Some p
 stage_stays k p n (inl e) = subst (λ q. can_hold q n ≡ true → stage k q n ≡ Some q) (sym e) list
   where
@@ -51,7 +51,7 @@ holds_quarters q n above few = cond-false (eqb q 3) (leb n 7) (leb (4 * n) (3 * 
 after_set : (p : ℕ) → 5 ≤ p → size_after p ≡ p + 1
 after_set p low = cond-false (eqb p 3) 5 (p + 1) (not_three p (omega (arith, low)))
 
--- coupons that it doesn't hold go to the next size
+-- coupons that it doesn't hold get the next size
 pub stage_next : (k p n q : ℕ) → IsSize k p → can_hold p n ≡ false → AtMost p n → q ≡ size_after p → q + 3 ≤ k → stage k p n ≡ Some q
 stage_next k p n q (inl three) = subst (λ p. can_hold p n ≡ false → AtMost p n → q ≡ size_after p → q + 3 ≤ k → stage k p n ≡ Some q) (sym three) list
   where
@@ -72,7 +72,7 @@ stage_next k p n q (inr (low, high)) = λ many few e fit.
     ])
     (ap (fits p n) is ∙ and_from (leb p (p + 1)) (can_hold (p + 1) n) (le-leb p (p + 1) (omega arith)) coupons_in)
 
--- and where there is none, to registers
+-- and if there is none, they become registers
 pub stage_last : (k p n : ℕ) → IsSize k p → can_hold p n ≡ false → k < size_after p + 3 → stage k p n ≡ None
 stage_last k p n (inl three) = subst (λ p. can_hold p n ≡ false → k < size_after p + 3 → stage k p n ≡ None) (sym three) list
   where
@@ -97,7 +97,7 @@ pub from_five : (k p : ℕ) → IsSize k p → 5 ≤ size_after p
 from_five k p (inl three) = subst (λ p. 5 ≤ size_after p) (sym three) (let five : 5 ≤ 5 = omega arith in five)
 from_five k p (inr (low, high)) = omega (arith, after_set p low)
 
--- ---- a table and a coupon more
+-- ---- a table and one more coupon
 
 pub AtMost-with : (t : Table) (c n : ℕ) → IsTable t → length (coupons_in t.buckets) ≤ 2 ^ t.lg_size → (5 ≤ t.lg_size → length (coupons_in t.buckets) < 2 ^ t.lg_size) →
     n ≡ len (insert (coupons_of t) c) → AtMost t.lg_size n

@@ -15,7 +15,7 @@ pub add_in_turn-append : (x : Sketch) (cs ds : List ℕ) → add_in_turn x (cs +
 add_in_turn-append x [] ds = refl
 add_in_turn-append x (c ∷ cs) ds = add_in_turn-append (add x (set_of (c ∷ []))) cs ds
 
--- one coupon more than the first i
+-- one more coupon than the first i
 pub one_more_in_turn : (x now next : Sketch) (cs : List ℕ) (i : ℕ) → i < length cs → now ≡ add_in_turn x (take i cs) → next ≡ add now (set_of (get_or cs i 0 ∷ []))
     → next ≡ add_in_turn x (take (i + 1) cs)
 one_more_in_turn x now next cs i inside so is =
@@ -30,14 +30,14 @@ in_two_parts x mid cs left n first rest =
 abbrev pub of_registers : ℕ → HllType → Stored → Sketch
 of_registers k width x = record { lg_k = k; width = width; content = content_of x }
 
--- coupons put in turn into registers are added in turn
+-- coupons that are added to registers in turn are added in turn to the sketch
 pub put_in_turn : (k : ℕ) (width : HllType) (x : Stored) (cs : List ℕ) → x.lg_k ≡ k → of_registers k width (fold update_with_coupon x cs) ≡ add_in_turn (of_registers k width x) cs
 put_in_turn k width x [] same = refl
 put_in_turn k width x (c ∷ cs) same =
     put_in_turn k width (update_with_coupon x c) cs same
     ∙ ap (λ (content : Content). add_in_turn (record { lg_k = k; width = width; content = content }) cs) (updated_as k x (update_with_coupon x c) c same refl)
 
--- some put into registers are added, and some added after the first n
+-- a prefix is added to registers, and another prefix after the first n coupons
 pub put_some_in_turn : (k : ℕ) (width : HllType) (x y : Stored) (cs : List ℕ) → x.lg_k ≡ k → PutsSome x y cs → AddsSome (of_registers k width x) (of_registers k width y) cs
 put_some_in_turn k width x y cs same some = record {
   count = some.count;

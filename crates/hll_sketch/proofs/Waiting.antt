@@ -35,7 +35,7 @@ use Rattle.hll_sketch.proofs.MergedImages.{read_is_legal}
 use Rattle.hll_sketch.proofs.Merges.{coupons_added, other_empty}
 use Rattle.hll_sketch.proofs.SizedImages.{sized_if_read}
 
--- the set of two lists is the union of theirs
+-- the set of two concatenated lists is the union of their sets
 pub set_of-append : (xs ys : List ℕ) → set_of (xs ++ ys) ≡ union (set_of xs) (set_of ys)
 set_of-append xs ys = same_members _ _ (λ q.
     contains-from_list_nat (xs ++ ys) q ∙ list_any-append (λ y. nat_eq y q) xs ys
@@ -45,7 +45,7 @@ set_of-append xs ys = same_members _ _ (λ q.
 pub some_first : (c : ℕ) (cs : List ℕ) → set_of (c ∷ cs) ≡ empty → ⊥
 some_first c cs e = true≢false (sym (inserted (set_of cs) c) ∙ ap (λ S. contains S c) e ∙ contains-empty nat_cmp c)
 
--- a table with coupons more, at least one, is not empty
+-- a table with more coupons, at least one, is not empty
 in_table_some : (k : ℕ) (content : Content) (T : Pairs) → in_registers content ≡ false → (T ≡ empty → ⊥) → in_registers (content_with k content T) ≡ false
     → eqb (len (pairs_in (content_with k content T))) 0 ≡ false
 in_table_some k (registers R s) T table some stays = absurd (true≢false table)
@@ -59,7 +59,7 @@ in_table_some k (coupons S p) T table some stays = of (stage k p (len (union S T
     of None h = absurd (true≢false h)
 
 module _ (m : ℕ) (g : Sketch) (gadget : IsGadget m g) (legal : IsLegal g) (table : in_registers g.content ≡ false) (some : is_empty g ≡ false) where
-  -- with coupons more it has some
+  -- with more coupons it has some
   stays_some : (W : List ℕ) → All IsPair W → is_empty (with_coupons g W) ≡ false
   stays_some [] pairs = some
   stays_some (c ∷ cs) pairs =
@@ -74,7 +74,7 @@ module _ (m : ℕ) (g : Sketch) (gadget : IsGadget m g) (legal : IsLegal g) (tab
   added_after [] (x ∷ xs) other = refl
   added_after (c ∷ cs) X other = ap (add g) (set_of-append (c ∷ cs) X) ∙ sym (add_again g (set_of (c ∷ cs)) (set_of X))
 
-  -- coupons of a sketch after those that wait: the sketch is merged
+  -- the coupons of a sketch are added after those that wait: the sketch is merged
   pub merged_waiting : (x : Sketch) (W X : List ℕ) (size : ℕ) → All IsPair W → x.content ≡ coupons (set_of X) size → is_empty x ≡ false
       → with_coupons g (W ++ X) ≡ merge m (with_coupons g W) x
   merged_waiting x W X size pairs is other =
@@ -85,7 +85,7 @@ module _ (m : ℕ) (g : Sketch) (gadget : IsGadget m g) (legal : IsLegal g) (tab
       ∙ ap (λ c. merge_content m h x c) (sym is)
       ∙ sym (merge_of_some m h x other)
 
--- ---- coupons of which there are some, or none
+-- ---- coupons, at least one or none
 
 pub some_listed : (W : List ℕ) → (length W ≡ 0 → ⊥) → len (set_of W) ≡ 0 → ⊥
 some_listed [] some none = some refl
@@ -99,7 +99,7 @@ pub added_none : (g : Sketch) (W : List ℕ) → length W ≡ 0 → g ≡ with_c
 added_none g [] none = refl
 added_none g (c ∷ cs) none = absurd (omega (arith, none))
 
--- the same coupons, each once, may wait for them
+-- the same coupons, each once, may wait instead
 pub sorted_same : (g : Sketch) (W V : List ℕ) → set_of V ≡ set_of W → with_coupons g V ≡ with_coupons g W
 sorted_same g [] [] e = refl
 sorted_same g [] (c ∷ cs) e = absurd (some_first c cs (e ∙ set_of-nil))
@@ -115,7 +115,7 @@ sorted_waits g W V ascending may =
       few = omega (arith, may.few, fewer);
     }
 
--- as many more may wait as an image has, where a gadget has coupons
+-- if a gadget has coupons, as many more coupons may wait as an image has
 pub more_wait : (g : Sketch) (W X V : List ℕ) → V ≡ W ++ X → length W < 2 ^ 18 → length X < 2 ^ 19 → in_registers g.content ≡ false → is_empty g ≡ false → MayWait g V
 more_wait g W X V is few others table some = record {
   in_table = λ _. table;
@@ -125,7 +125,7 @@ more_wait g W X V is few others table some = record {
 
 -- ---- images
 
--- a refusal for memory after an image that was read
+-- an allocation that fails after an image was read
 pub memory_after : (b : List ℕ) (x : Sketch) (e : Reason) → IsReadAs b x → e ≡ Memory → IsRefusal b e
 memory_after b x e read is = record { first = inl is; asked = λ memory. sized_if_read b x read }
 
@@ -158,7 +158,7 @@ module _ (b order : List ℕ) (of : IsOfCoupons b order) (are : AreCoupons order
 
 module _ (b : WaitingUnion) (gadget : IsGadget b.lg_max_k (sketch_of b.kept)) (legal : IsLegal (sketch_of b.kept))
     (table : in_registers (sketch_of b.kept).content ≡ false) (some : is_empty (sketch_of b.kept) ≡ false) (pairs : All IsPair b.waiting) where
-  -- where the coupons of a sketch wait too, the sketch is merged
+  -- if the coupons of a sketch wait too, the sketch is merged
   pub more_waiting : (x : Sketch) (X : List ℕ) (size : ℕ) → x.content ≡ coupons (set_of X) size → is_empty x ≡ false
       → whole_gadget (record b { waiting = b.waiting ++ X }) ≡ merge b.lg_max_k (whole_gadget b) x
   more_waiting x X size is other = merged_waiting b.lg_max_k (sketch_of b.kept) gadget legal table some x b.waiting X size pairs is other

@@ -130,7 +130,7 @@ module _ (k : ℕ) (w : HllType) (S : Pairs) (order : List ℕ) (lg_k : IsLgK k)
   pub list_image : len S ≤ 8 → Image L (record { lg_k = k; width = w; content = coupons S 3 })
   list_image few = list (is_list_image few) (sym (λ i. let y : Sketch = record { lg_k = k; width = width_back 0 w (omega arith) i; content = coupons ((ap set_of coupons_are ∙ lists.members) i) 3 } in y))
 
-  -- bytes after it are not looked at
+  -- bytes after it are not read
   pub read_back : (more : List ℕ) → len S ≤ 8 → IsReadBack L order more
   read_back more few = record {
     image = is_list_image few;

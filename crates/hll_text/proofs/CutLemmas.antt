@@ -10,7 +10,7 @@ use Rattle.hll_text.specs.Text.{ended_parts, ended_lines, last_part, open_line, 
 use Rattle.hll_text.specs.Cuts.{IsOpen, Closes, LinesOfCuts}
 use Rattle.hll_text.proofs.PartLemmas.{ended_parts-cons, length-parts, parts-some, parts-none}
 
--- the parts but the last one
+-- the parts except the last one
 abbrev front_parts : List (List ℕ) → List (List ℕ)
 front_parts [] = []
 front_parts (last ∷ []) = []
@@ -19,7 +19,7 @@ front_parts (part ∷ next ∷ more) = part ∷ front_parts (next ∷ more)
 abbrev parts : List ℕ → List (List ℕ)
 parts text = slice_split (λ b. nat_eq b 10) text
 
--- a byte that is no mark goes onto the first part, also where that part is the one that is cut
+-- a byte that is not a mark is put before the first part, even if that part is the one that is cut
 onto_front : (x : ℕ) (ps : List (List ℕ)) (b : List ℕ) → nat_eq x 10 ≡ false
     → onto_first x (front_parts ps ++ parts (last_part ps ++ b)) ≡ front_parts (onto_first x ps) ++ parts (last_part (onto_first x ps) ++ b)
 onto_front x [] b e = sym (slice_split-cons_no (λ c. nat_eq c 10) x b e)
@@ -93,7 +93,7 @@ lines_of_parts-ended (x ∷ y ∷ more) = ap (λ ls. strip_carriage_return x ∷
 pub lines-ended : (text : List ℕ) → lines text ≡ ended_lines text ++ line_of_rest (open_line text)
 lines-ended text = lines_of_parts-ended (parts text)
 
--- the open line after the first LF, and where there is none
+-- the open line after the first LF, and if there is no LF
 pub open-some : (xs : List ℕ) (i : ℕ) → position (λ b. nat_eq b 10) xs ≡ Some i → open_line xs ≡ open_line (drop (i + 1) xs)
 open-some xs i e = ap last_part (parts-some 10 xs i e).0 ∙ last_part-cons (take i xs) _ (length-parts 10 (drop (i + 1) xs))
 
@@ -122,7 +122,7 @@ parts-before (b ∷ bytes) text h =
     ∙ ap (onto_first b) (parts-before bytes text (All-tail (λ c. nat_eq c 10 ≡ false) b bytes h))
     ∙ onto_before b bytes (parts text)
 
--- where the next piece has an LF
+-- if the next piece has an LF
 pub closes-some : (pending piece : List ℕ) (i : ℕ) → IsOpen pending → position (λ b. nat_eq b 10) piece ≡ Some i
     → Closes pending piece [] (drop (i + 1) piece) (strip_carriage_return (pending ++ take i piece) ∷ [])
 closes-some pending piece i h e =
@@ -135,7 +135,7 @@ closes-some pending piece i h e =
       still = All-nil (λ b. nat_eq b 10 ≡ false);
     }
 
--- where it has none
+-- if it has none
 pub closes-none : (pending piece : List ℕ) → IsOpen pending → position (λ b. nat_eq b 10) piece ≡ None → Closes pending piece pending piece []
 closes-none pending piece h e =
     let none = parts-none 10 piece e in
@@ -151,7 +151,7 @@ pub closes-nothing : (pending piece : List ℕ) → pending ≡ [] → Closes pe
 closes-nothing [] piece e = record { lines = refl; open_bytes = refl; still = All-nil (λ b. nat_eq b 10 ≡ false) }
 closes-nothing (b ∷ bytes) piece e = absurd (cc)
 
--- what follows the last LF has none
+-- the bytes after the last LF have none
 pub open_line-open : (text : List ℕ) → IsOpen (open_line text)
 open_line-open [] = All-nil (λ b. nat_eq b 10 ≡ false)
 open_line-open (x ∷ text) = by_mark (nat_eq x 10) refl (open_line-open text)

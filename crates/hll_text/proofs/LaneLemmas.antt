@@ -33,7 +33,7 @@ not_true : (b : Bool) → not b ≡ true → b ≡ false
 not_true true h = absurd (cc)
 not_true false h = refl
 
--- the digits end where a run of lanes ends
+-- the digits end where a sequence of lanes that are digits ends
 digits_of_run : (xs : List ℕ) (n : ℕ) → n ≤ length xs → ((k : ℕ) → k < n → not (is_ascii_digit (get_or xs k 0)) ≡ false) → list_all is_ascii_digit (take n xs) ≡ true
 digits_of_run xs zero few h = refl
 digits_of_run xs (suc n) few h =
@@ -47,7 +47,7 @@ digits_of_run xs (suc n) few h =
 above_zero : (x : ℕ) → x < 256 → (cond (top 7 (cond (nat_lt x 48) 255 0)) 48 x + 208) % 256 ≡ x - 48
 above_zero x h = grind (arith, nat_tests)
 
--- how far bytes are above the digit 0, as wider numbers
+-- the differences between bytes and the digit 0, as wider numbers
 abbrev above : ℕ → List ℕ → List ℕ
 above n xs = map (λ d. d) (zip2 (λ a b. (a + (256 - b)) % 256) (sel_l (map (top 7) (zip2 (λ a b. cond (nat_lt a b) 255 0) xs (replicate n 48))) (replicate n 48) xs) (replicate n 48))
 
@@ -57,7 +57,7 @@ above-lanes zero (x ∷ xs) e h = absurd (omega arith)
 above-lanes (suc n) [] e h = refl
 above-lanes (suc n) (x ∷ xs) e h = λ i. above_zero x h.0 i ∷ above-lanes n xs (omega arith) h.1 i
 
--- the powers of ten that n digits stand for, and zeros
+-- the powers of ten for n digits, and then zeros
 abbrev powers : ℕ → List ℕ
 powers n = chunk 0 8 (take (16 - (8 - n)) (drop (8 - n) (10000000 ∷ 1000000 ∷ 100000 ∷ 10000 ∷ 1000 ∷ 100 ∷ 10 ∷ 1 ∷ 0 ∷ 0 ∷ 0 ∷ 0 ∷ 0 ∷ 0 ∷ 0 ∷ 0 ∷ [])))
 
@@ -148,7 +148,7 @@ module _ (text : List ℕ) (long : 8 ≤ length text) (fits : (k : ℕ) → Fits
         ∙ sum-powers (chunk 0 8 text) n (length-chunk 0 8 text long) few
         ∙ ap decimal_value (take-take n 8 text few)
 
--- the first eight bytes, by the mask of those that are no digits
+-- the first eight bytes, with the mask of those that are not digits
 module _ (text : List ℕ) (long : 8 ≤ length text) (m : ℕ) (is : m ≡ mask_l (map (λ b. not (is_ascii_digit b)) (chunk 0 8 text))) where
   module _ (some : 0 < m) where
     counted : trailing_zeros w64 m ≡ prefix_len (λ b. not (not (is_ascii_digit b))) (chunk 0 8 text)

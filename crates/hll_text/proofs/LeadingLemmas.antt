@@ -11,7 +11,7 @@ use Rattle.hll_text.specs.Text.{tokens, decimal_value, is_number, number, first_
 use Rattle.hll_text.proofs.ByteLemmas.{found, not_found, passes_at}
 use Rattle.hll_text.proofs.PartLemmas.{tokens-some, tokens-none, tokens-within}
 
--- a token that goes on after its first digits is none, if a byte that is no digit comes next, or a ninth one
+-- a token that continues after its first digits is not a number, if the next byte is not a digit, or there is a ninth digit
 pub no_number : (token : List ℕ) (n : ℕ) → n < length token → n ≤ 8 → (n < 8 → is_ascii_digit (get_or token n 0) ≡ false) → number token ≡ Err Syntax
 no_number token n more few ends = cond-false (is_number token) (Ok (decimal_value token)) (Err Syntax) (elim (cases_lt n 8) [
   | inl low ↦ and_right (nat_le 1 (length token) && nat_le (length token) 8) (list_all is_ascii_digit token) (list_all_at is_ascii_digit token n 0 more (ends low))

@@ -7,7 +7,7 @@ use Rattle.std.proofs.lemmas.Bool.{ne_eqb}
 use Rattle.hll_text.specs.declared.fault.Fault.TheVariants.{Syntax}
 use Rattle.hll_text.specs.Text.{as_reading, read_tokens, reading, tokens, one_number, two_numbers, one_token}
 
--- seven digits and one more fit 32 bits
+-- seven digits and one more fit in 32 bits
 pub below_seven : (v k : ℕ) → v < 10 ^ k → k < 8 → v < 10000000
 below_seven v k h e =
     let few : k ≤ 7 = omega arith in
@@ -15,7 +15,7 @@ below_seven v k h e =
     let most : 10 ^ k ≤ 10 ^ 7 = pow-le-pow_right {n = 10} ten {i = k} {j = 7} few in
     omega arith
 
--- two tokens and more are not one number
+-- two or more tokens are not one number
 pub one_number-more : (a : List ℕ) (ws : List (List ℕ)) → 0 < length ws → one_number (a ∷ ws) ≡ Err Syntax
 one_number-more a [] h = absurd (omega arith)
 one_number-more a (b ∷ more) h = refl
@@ -29,7 +29,7 @@ two_numbers-more a b (c ∷ ws) h = refl
 pub one_token-one : (a : List ℕ) → nat_eq (length a) 0 ≡ false → one_token (a ∷ []) ≡ Ok a
 one_token-one a e = ap (λ b. cond b (Err Syntax) (Ok a)) e
 
--- two tokens and more are not one
+-- two or more tokens are not one token
 pub one_token-more : (a : List ℕ) (ws : List (List ℕ)) → 0 < length ws → one_token (a ∷ ws) ≡ Err Syntax
 one_token-more a [] h = absurd (omega arith)
 one_token-more a (b ∷ more) h = refl

@@ -1,5 +1,5 @@
 -- SPDX-License-Identifier: Apache-2.0
--- Lemmas on bytes that go out piece by piece.
+-- Lemmas on bytes that are written piece by piece.
 use Rattle.std.proofs.Common.{arith, ◌≡◌, ℕ, List, ◌++◌, sym, ◌∙◌, ap, append_assoc, Option, Result, Ok, Err}
 use Rattle.std.specs.Prelude.{IsErrAnd}
 use Rattle.std.specs.Io.KnownBytes.{Appends}
@@ -9,7 +9,7 @@ use Rattle.hll_text.specs.declared.fault.Fault.TheVariants.{Write}
 use Rattle.hll_text.proofs.StreamLemmas.{Appends-more}
 use Rattle.hll_text.specs.Refusal.{AppendsFront, Sends}
 
--- a front of the first piece
+-- a prefix of the first piece
 pub front-first : (old new : Option (List ℕ)) (xs ys : List ℕ) → AppendsFront old new xs → AppendsFront old new (xs ++ ys)
 front-first old new xs ys h = record {
   sent = h.sent;
@@ -19,7 +19,7 @@ front-first old new xs ys h = record {
   appended = h.appended;
 }
 
--- the first piece, and a front of the second
+-- the first piece, and a prefix of the second
 pub front-second : (old mid new : Option (List ℕ)) (xs ys : List ℕ) → Appends old mid xs → AppendsFront mid new ys → AppendsFront old new (xs ++ ys)
 front-second old mid new xs ys h k = record {
   sent = xs ++ k.sent;
@@ -29,7 +29,7 @@ front-second old mid new xs ys h k = record {
   appended = Appends-more old mid new xs k.sent h k.appended;
 }
 
--- the first piece went out, and then the second is sent
+-- the first piece was written, and then the second is
 pub Sends-second : {T : Type 0} (old mid new : Option (List ℕ)) (r : Result T Fault) (xs ys : List ℕ)
     → Appends old mid xs → Sends mid new r ys → Sends old new r (xs ++ ys)
 Sends-second old mid new (Ok x) xs ys h k = Appends-more old mid new xs ys h k

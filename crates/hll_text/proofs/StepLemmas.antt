@@ -1,5 +1,5 @@
 -- SPDX-License-Identifier: Apache-2.0
--- What holds of each step that a line says.
+-- What holds for each step that a line says.
 use Rattle.std.proofs.Common.{◌≡◌, ℕ, ◌%◌, ◌^◌, ◌<◌, ◌≤◌, Bool, true, false, cond, ◌&&◌, ◌==◌, leb, nat_lt, eqb, List, [], ◌∷◌, length, Some, None, Result, Ok, Err, refl, arith, Option}
 use Rattle.std.specs.Prelude.{codes, IfOk}
 use Rattle.std.specs.Result.{result_map_both}

@@ -27,7 +27,7 @@ Consumes-more (Some us) None c xs ys h k = elim h [ ]
 Consumes-more (Some us) (Some bs) None xs ys h k = elim k [ ]
 Consumes-more (Some us) (Some bs) (Some cs) xs ys h k = h ∙ ap (λ zs. xs ++ zs) k ∙ sym (append_assoc xs ys cs)
 
--- a front of what is written next ends a front of the whole
+-- a prefix of what is written next completes a prefix of the whole
 pub front_more : (a b c : Option (List ℕ)) (xs ys zs : List ℕ) (n : ℕ) → Appends a b xs → n < length ys → Appends b c (take n ys) →
     (m : ℕ) × (m < length (xs ++ (ys ++ zs))) × Appends a c (take m (xs ++ (ys ++ zs)))
 front_more a b c xs ys zs n before short after = (

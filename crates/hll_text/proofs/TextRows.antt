@@ -40,7 +40,7 @@ row-other_word = refl
 row-three_numbers : reading (codes "new 10 8 8") ≡ Err Syntax
 row-three_numbers = refl
 
--- a token that is no number goes before a number out of range
+-- a token that is not a number is reported before a number out of range
 row-syntax_first : reading (codes "new 3 x") ≡ Err Syntax
 row-syntax_first = refl
 
@@ -89,7 +89,7 @@ row-digit = refl
 row-odd : reading (codes "image 020") ≡ Err Hex
 row-odd = refl
 
--- a tab is no space
+-- a tab is not a space
 row-tab : reading (codes "image 0" ++ 9 ∷ []) ≡ Err Hex
 unfolding hex_on_literals
 row-tab = refl
@@ -102,7 +102,7 @@ row-no_text = refl
 row-one_newline : lines (10 ∷ []) ≡ [] ∷ []
 row-one_newline = refl
 
--- one CR goes before an LF, a second stays, and so does one at the end of the text
+-- one CR before an LF belongs to the line's end; a second CR does not, nor does one at the end of the text
 row-returns : lines (65 ∷ 13 ∷ 13 ∷ 10 ∷ 66 ∷ 13 ∷ []) ≡ (65 ∷ 13 ∷ []) ∷ (66 ∷ 13 ∷ []) ∷ []
 row-returns = refl
 

@@ -4,7 +4,7 @@ use Rattle.std.specs.Io.KnownBytes.{Consumes}
 use Rattle.hll_merge.specs.Feeding.{IsFedBy}
 use Rattle.hll_merge.proofs.run.feed_all.Given as goal
 
--- what came so far was fed, and nothing has failed
+-- what was read so far was fed, and nothing has failed
 abbrev pub invariant-pieces : goal.invariant-pieces
 invariant-pieces g l = record {
   text : List ℕ;

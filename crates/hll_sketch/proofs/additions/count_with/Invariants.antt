@@ -5,6 +5,6 @@ use Rattle.hll_coupons.specs.Pair.{set_of}
 use Rattle.hll_coupons.specs.Table.{coupons_of}
 use Rattle.hll_sketch.proofs.additions.count_with.Given as goal
 
--- those of the list, and the coupons so far
+-- the coupons of the list, and the coupons so far
 abbrev pub invariant-loop-coupon : goal.invariant-loop-coupon
 invariant-loop-coupon g l = l.count ≡ len (union (coupons_of l.fn.list) (set_of l.yielded))

@@ -5,7 +5,7 @@ use Rattle.hll_coupons.specs.Coupons.{coupon_bytes}
 use Rattle.hll_coupons.proofs.Payloads.{length-coupon_bytes}
 use Rattle.hll_sketch.proofs.coupon_images.coupon_image.Goals as goal
 
--- the bytes are four times as many as the coupons
+-- there are four bytes for each coupon
 four_each : (b order : List ℕ) → b ≡ coupon_bytes order → length b ≡ 4 * length order
 four_each b order is = ap length is ∙ length-coupon_bytes order
 

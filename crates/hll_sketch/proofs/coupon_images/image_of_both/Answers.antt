@@ -11,7 +11,7 @@ use Rattle.hll_sketch.proofs.coupon_images.image_of_both.Goals as goal
 abbrev listed : RawCoupons → List ℕ
 listed w = raw_coupons w.count w.bytes.now
 
--- what is written for lists of raw coupons is written for those that they are taken from
+-- what is written for lists of raw coupons is written for the lists that they equal
 written_for : (xs ys all others bytes : List ℕ) → all ≡ xs → others ≡ ys → WritesAscending coupon_bytes (union (set_of all) (set_of others)) bytes → WritesAscending coupon_bytes (union (set_of xs) (set_of ys)) bytes
 written_for xs ys all others bytes first second up = subst (λ S. WritesAscending coupon_bytes S bytes) (λ i. union (set_of (first i)) (set_of (second i))) up
 

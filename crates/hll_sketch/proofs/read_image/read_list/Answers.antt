@@ -24,7 +24,7 @@ returns-then-header-ne-LG_LIST_BUCKETS-clause-err g c =
     subst (IsRefusal b) (sym c.new.ensures)
     (refused b reasons.LgArr (list_table_first b c.requires.has (λ three. c.if-header-ne-LG_LIST_BUCKETS.true (ap (λ (h : Header). h.lg_arr) c.requires.header ∙ three))) (λ e. cc))
 
--- what was handed to the reader of lists is the shape of the image
+-- what was passed to the reader of lists is the shape of the image
 same_shape : (b : List ℕ) (h : Header) (size count : ℕ) → h ≡ header_of b → size ≡ 3 → count ≡ h.state_byte
     → (let s : ListShape = record { lg_size = size; count = count; empty = h.empty; compact = h.compact } in s) ≡ list_shape b
 same_shape b h size count is three state =

@@ -20,7 +20,7 @@ use Rattle.hll_sketch.proofs.Refusals.{refused}
 use Rattle.hll_sketch.proofs.read_image.read_set.Goals as goal
 use Rattle.hll_sketch.proofs.read_image.read_set.Goals.{then-header-lt-LG_LEAST_SET_BUCKETS-via-then-header-lt-LG_LEAST_SET_BUCKETS, then-header-lt-LG_LEAST_SET_BUCKETS-via-else-header-lt-LG_LEAST_SET_BUCKETS+then-header}
 
--- what was handed to the reader of sets is the shape of the image
+-- what was passed to the reader of sets is the shape of the image
 same_shape : (b : List ℕ) (h : Header) (lg : ℕ) → h ≡ header_of b → lg ≡ h.lg_arr → shape_of_set lg h.compact ≡ set_shape b
 same_shape b h lg is size = λ i. record { lg_size = (size ∙ ap (λ (x : Header). x.lg_arr) is) i; compact = ap (λ (x : Header). x.compact) is i }
 

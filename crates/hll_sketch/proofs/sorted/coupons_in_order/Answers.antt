@@ -27,7 +27,7 @@ returns-clause-none c =
     IfNone_then c.sorted.result c.sorted.ensures.none λ apart.
     not_evident c.args.bytes.now all c.in-Some.ensures.raw_coupons c.in-Some.ensures.compact (λ up. true≢false (sym (c.ascend.ensures.1 up) ∙ c.if-ascend.false)) (λ few are. apart are)
 
--- what holds of a value, where a fact holds if there is one
+-- what holds for a value, if a fact holds whenever there is one
 given : {X : Type 0} (r : Option X) {P R : X → Type 0} {Q : Type 0} → OnSome r Q → IfSome r P → (Q → (x : X) → P x → R x) → IfSome r R
 given None q p f = tt
 given (Some x) q p f = f q x p

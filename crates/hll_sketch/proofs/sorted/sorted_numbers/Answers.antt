@@ -7,7 +7,7 @@ use Rattle.hll_sketch.proofs.CouponImages.{ascends_after}
 use Rattle.hll_sketch.proofs.SortedCoupons.{sorted_members, coupons_from_sorted, sorted_from_coupons}
 use Rattle.hll_sketch.proofs.sorted.sorted_numbers.Goals as goal
 
--- the numbers ascend from the greatest without a value
+-- the numbers ascend from the greatest one with the value 0
 abbrev Ascend : List ℕ → Type 0
 Ascend ws = IsStrictlyIncreasing ((2 ^ 26 - 1) ∷ ws)
 

@@ -12,11 +12,11 @@ use Rattle.hll_sketch.proofs.updatable.gathered_coupons.Goals.{in-List+in_ok-buc
 abbrev placed : Buckets → List ℕ
 placed p = raw_coupons p.raw_coupons.count p.raw_coupons.bytes.now
 
--- the image is of the coupons in these buckets, if they hold so many
+-- the image is of the coupons in these buckets, if these hold that number of coupons
 abbrev Means : List ℕ → Buckets → Type 0
 Means b p = HoldCoupons p.filled (placed p) → IsOfCoupons b (coupons_in (placed p))
 
--- they do, if it is updatable and has some
+-- they do, if the image is updatable and has coupons
 abbrev Holds : List ℕ → Buckets → Type 0
 Holds b p = HasUpdatableCoupons b → HoldCoupons p.filled (placed p)
 

@@ -6,7 +6,7 @@ use Rattle.std.proofs.lemmas.Bool.{true≢false}
 use Rattle.hll_coupons.specs.Coupons.{raw_coupons}
 use Rattle.hll_sketch.proofs.raw_coupons.RawCoupons.is_new.Goals as goal
 
--- the negation tells the same
+-- the negation in both forms
 lacks : (found : Bool) → (IsTrue (not found) → found ≡ false) × (found ≡ false → IsTrue (not found))
 lacks true = (λ t. absurd (true≢false (sym t)), λ f. absurd (true≢false f))
 lacks false = (λ t. refl, λ f. refl)

@@ -7,7 +7,7 @@ use Rattle.hll_sketch.specs.Value.{in_registers, IsLegal}
 use Rattle.hll_sketch.proofs.Folds.{own_fold_of_registers}
 use Rattle.hll_sketch.proofs.sketch.HllSketch.is_own_fold.Goals as goal
 
--- what is kept in registers at their own lg_k is its own fold
+-- a sketch in registers at their own lg_k is its own fold
 own : (y x : SketchLayout) (e : ℕ) → y ≡ x → y.lg_k ≡ e → IsLegal (sketch_of x) → in_registers (content_in y.layout) ≡ true →
     IsTrue true ↔ (folded (sketch_of x) e ≡ sketch_of x)
 own y x e view same legal inside =

@@ -16,7 +16,7 @@ returns-in_err-self-inside-clause-needed g c =
     OnErr-of c.from_residual.result _
     (needs_whole c.args.self.now c.args.sketch.now.lg_k (content_in c.args.sketch.now.layout) _ _ c.requires.table (sym c.is_empty.ensures ∙ c.if-is_empty.true) same c.requires.registers)
 
--- the gadget has some, or is of another lg_k
+-- the gadget has coupons, or has another lg_k
 other : (g : Over) (c : goal.After-add_table g) → (is_empty (sketch_of c.args.self.now) && nat_eq c.args.self.now.lg_k c.args.sketch.now.lg_k) ≡ false
 other g c =
     let x : Sketch = sketch_of c.args.self.now in

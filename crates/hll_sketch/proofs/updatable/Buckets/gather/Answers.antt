@@ -8,7 +8,7 @@ use Rattle.hll_sketch.proofs.Gathering.{counted, gathered_more}
 use Rattle.hll_sketch.proofs.updatable.Buckets.gather.Goals as goal
 use Rattle.hll_sketch.proofs.updatable.Buckets.gather.Goals.{then-count-lt-FEW, else-count-lt-FEW}
 
--- a raw coupon counts where it is not 0
+-- a raw coupon is counted if it is not 0
 counts : (w extra : ℕ) → extra ≡ bool_byte (not (nat_eq w 0)) → ((w ≡ 0) × (extra ≡ 0)) ⊎ ((0 < w) × (extra ≡ 1))
 counts zero extra is = inl (refl, is)
 counts (suc n) extra is = inr (omega arith, is ∙ ap (λ b. bool_byte (not b)) (ne_eqb (suc n) 0 (λ e. omega (arith, e))))
