@@ -168,9 +168,9 @@ pub extern "C" fn hll_image_add_coupon(
 
 /// Writes the image of the union of two images into `out`, at a width. `lg_max_k` is the bound of its `lg_k`.
 ///
-/// Returns `Argument` if `lg_max_k` or `width` is out of range (a width of 0 is, here and in the unions below), the reason of
-/// the first check that the first faulty image fails, with the number of that image in `failed`, or `Memory`. Allocates one of
-/// their sketches, the union and the written image.
+/// Returns `Argument` if `lg_max_k` or `width` is out of range (a width of 0 is out of range here and in the unions below), the
+/// reason of the first check that the first faulty image fails, with the number of that image in `failed`, or `Memory`.
+/// Allocates one of their sketches at a time, the union and the written image.
 #[unsafe(no_mangle)]
 pub extern "C" fn hll_image_merge(
     alloc: Global,
@@ -260,7 +260,7 @@ pub extern "C" fn hll_image_fold(
 /// own.
 ///
 /// Returns `Argument` if `width` is not 0, 4, 6 or 8, the reason of the first check that the image fails, or `Memory`.
-/// Allocates its sketch, a sketch of the other width, and the written image.
+/// Allocates its sketch, for another width also a sketch of that width, and the written image.
 #[unsafe(no_mangle)]
 pub extern "C" fn hll_image_convert(
     alloc: Global,
@@ -378,13 +378,12 @@ pub extern "C" fn hll_registers_add_coupons(registers: &mut [u8], coupons: &[u32
     byte_registers::add_coupons(registers, coupons)
 }
 
-/// Merges an image of any stage and width into caller-owned registers. More registers than the caller's are folded to their
-/// `lg_k`.
+/// Merges an image of any stage and width into caller-owned registers. If the image has more registers, they are folded.
 ///
-/// Returns 15, and sets `coarser` to the image's `lg_k`, if the image has registers that are not all 0, and fewer than the
-/// caller. Returns `Argument` if the number of registers is not 2^`lg_k`, the reason of the first check that the image fails,
-/// or `Memory`. Allocates a map for the exceptions of 4-bit registers, and a table for coupons, except for 1 to 128 coupons or
-/// for coupons that ascend in a compact image.
+/// Returns 15, and sets `coarser` to the image's `lg_k`, if the image has registers that are not all 0, and fewer of them
+/// than the caller. Returns `Argument` if the number of the caller's registers is not 2^`lg_k`, the reason of the first check
+/// that the image fails, or `Memory`. Allocates a map for the exceptions of 4-bit registers, and a table for coupons, except
+/// for 1 to 128 coupons or for coupons that ascend in a compact image.
 #[unsafe(no_mangle)]
 pub extern "C" fn hll_registers_merge(
     alloc: Global,
@@ -399,7 +398,7 @@ pub extern "C" fn hll_registers_merge(
 
 /// Merges other registers into caller-owned registers. If the others are more, they are folded.
 ///
-/// Returns 15, and sets `coarser` to the `lg_k` of the others, if these are not all 0, and fewer. Returns `Argument` if the
+/// Returns 15, and sets `coarser` to the `lg_k` of the others, if the others are fewer and not all 0. Returns `Argument` if the
 /// number of registers or of the others is not 2^`lg_k`, or `Register` if one of the others is above 63.
 #[unsafe(no_mangle)]
 pub extern "C" fn hll_registers_merge_registers(
@@ -528,9 +527,9 @@ pub extern "C" fn hll_state_new(lg_k: u32, state: &mut [[u8; 4]]) -> u8
 
 /// Adds values to a state: byte strings that are concatenated in `values` and delimited by `ends`.
 ///
-/// Returns 14 if there is not enough room for them, and sets `size` to a number of bytes that is enough; or `Argument` if ends
-/// descend, an end is after the last byte of `values`, or the elements are not a state. On these codes the sketch of the state
-/// is unchanged. Allocates nothing.
+/// Returns 14 if there is not enough room for them, and sets `size` to a number of bytes that is enough. Returns `Argument` if
+/// ends descend, an end is after the last byte of `values`, or the elements are not a state. On these codes the sketch of the
+/// state is unchanged. Allocates nothing.
 #[unsafe(no_mangle)]
 pub extern "C" fn hll_state_add(
     state: &mut [[u8; 4]],
@@ -567,11 +566,13 @@ pub extern "C" fn hll_state_add_coupons(
 
 /// Merges the sketch of an image into a state. The result is their union, with the state's `lg_k` as its bound.
 ///
-/// `lg_max_k` is 0 for no bound, or an `lg_k` of at least the state's. Without a bound, the call returns 16 if neither the
-/// state nor the image is empty and their `lg_k` differ, and an empty state takes the `lg_k` of an image that isn't empty.
-/// Returns 14 if there is not enough room, and sets `size` to a number of bytes that is enough; `Argument` if `lg_max_k` is out
-/// of range or the elements are not a state; the reason of the first check that the image fails; or `Memory`. On these codes
-/// the sketch of the state is unchanged. Allocates as `hll_image_check` does.
+/// `lg_max_k` is 0 for no bound, or an `lg_k` of at least the state's. Without a bound, an empty state takes the `lg_k` of an
+/// image that isn't empty, or of an empty image if that is greater.
+///
+/// Returns 16 if there is no bound, neither the state nor the image is empty, and their `lg_k` differ. Returns 14 if there is
+/// not enough room, and sets `size` to a number of bytes that is enough. Returns `Argument` if `lg_max_k` is out of range or the
+/// elements are not a state, the reason of the first check that the image fails, or `Memory`. On these codes the sketch of the
+/// state is unchanged. Allocates as `hll_image_check` does.
 #[unsafe(no_mangle)]
 pub extern "C" fn hll_state_join(
     alloc: Global,
