@@ -25,7 +25,7 @@ use hll_registers::register_slice::RegisterSlice;
 use hll_registers::registers::Registers;
 use std::alloc::{Allocator, Global};
 
-/// The sketch of an image. It allocates only a table, or a map for the exceptions of 4-bit registers.
+/// The sketch of an image. Only a table, or a map for the exceptions of 4-bit registers, is allocated for it.
 pub enum BorrowedImage<'a, A: Allocator = Global> {
     /// Coupons of a compact image that ascend, or are at most 128.
     Coupons(CouponsOfImage<'a>),

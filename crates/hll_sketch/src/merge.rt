@@ -37,12 +37,12 @@ use std::alloc::Allocator;
 
 impl<A: Allocator + Clone> HllUnion<A> {
     /// Merges a sketch of any stage, width and `lg_k` (docs/MODEL.md, "Merging"), in one pass. If the gadget is the union of
-    /// canonical sketches with cleared fields, and so is the sketch, the result is the union of all of them
+    /// canonical sketches with cleared fields, and this sketch is one too, the result is the union of all of them
     /// (docs/MODEL.md, "Convergence").
     ///
     /// Fails with `Memory`, and then changes nothing, not even buckets. Allocates nothing for an empty sketch, for coupons that
-    /// are added to registers or to a table of coupons that has room for them, nor for registers that are merged into registers
-    /// at their `lg_k` or a smaller one.
+    /// are added to registers or to a table that has coupons and room for these, nor for registers that are merged into
+    /// registers at their `lg_k` or a smaller one.
     pub fn update(&mut self, sketch: &HllSketch<A>) -> Result<(), Error>
         ensures ok { OnOk result (gadget_of self.new ≡ merging.merge self.old.lg_max_k (gadget_of self.old) (sketch_of sketch.now)) }
         ensures bound { self.new.lg_max_k ≡ self.old.lg_max_k }

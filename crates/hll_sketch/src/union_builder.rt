@@ -113,7 +113,7 @@ impl<A: Allocator + Clone> UnionBuilder<A> {
     }
 
     /// Returns whether coupons wait, or whether those of the next sketch would: if the union has more coupons than a list
-    /// holds. If it has fewer, they are added at once, which allocates nothing.
+    /// holds. If it doesn't, they are added at once, which allocates nothing.
     fn lets_wait(&self) -> bool
         ensures table { result ≡ true → in_registers (sketch_of self.now.kept).content ≡ false }
         ensures some { result ≡ true → is_empty (sketch_of self.now.kept) ≡ false }
