@@ -2,18 +2,17 @@
 # SPDX-License-Identifier: Apache-2.0
 """Checks the documents, and prints 'N passed, M failed' in the end.
 
-    scripts/documents.py [names] [words] [messages] [commands] [plans]
+    scripts/documents.py [names] [words] [commands] [plans]
 
-names     Files and sections that a page or a source names are there; names in backticks are in the sources, and on the
-          pages for reviewers are declared there; a clause is one of the function that it is said of; commands name programs,
-          parts and options that there are; tables that are made from the sources are theirs (scripts/tables.py); what
-          README.md tells of speed is in docs/NUMBERS.md.
-words     README.md has at most 1,000 words.
-messages  The messages of each host keep to the words of docs/FORMAT.md (scripts/messages.py).
+names     Files and sections that a page or a source names are there; a block after "From `FILE`:" is in that file; names in
+          backticks are in the sources, and on the pages for reviewers are declared there; a clause is one of the function
+          that it is said of; commands name programs, parts and options that there are; tables that are made from the sources
+          are up to date (scripts/tables.py); the speeds in README.md are in docs/NUMBERS.md.
+words     Pages, documentation and messages keep to the words of docs/FORMAT.md (scripts/wording.py).
 commands  The blocks of README.md run as they are, in a folder without a reader's files, and print what a line `#> ..` after
-          them says; so do commands of CALLING.md, SECURITY.md, docs/PLAN.md and docs/OPERATING.md, by tests/scale.py where
-          they need an engine.
-plans     The plans of docs/FAULTS.md have the answers told there.
+          them says; so do commands of CALLING.md, SECURITY.md, docs/PLAN.md, docs/PROVED.md and docs/OPERATING.md, by
+          tests/scale.py where they need an engine.
+plans     The program prints what docs/FAULTS.md says of its plans.
 
 Commands and plans need the programs in bin/ (make -C programs); commands build the library where it is not up to date.
 """
@@ -29,13 +28,13 @@ import tempfile
 
 sys.dont_write_bytecode = True
 sys.path.insert(0, str(pathlib.Path(__file__).resolve().parent))
-import messages  # noqa: E402
+import wording  # noqa: E402
 
 ROOT = pathlib.Path(__file__).resolve().parent.parent
 
 # On these pages each name in backticks is declared in a crate, but for those that are others'.
 DECLARED = {
-    "PROVED.md": {"dac8208d650f15bf", "hex", "linked_list_allocator", "memchr"},
+    "PROVED.md": {"dac8208d650f15bf", "hex", "hll", "linked_list_allocator", "memchr"},
     "MODEL.md": set(),
 }
 # What the command rt does.
@@ -49,8 +48,6 @@ SOURCES = {".rt", ".antt", ".py", ".c", ".h", ".cpp", ".hpp", ".sh", ".sql", ".r
 OTHERS = {"DIFFERENCES.md", "FAULTS.md", "OTHER_LANGUAGES.md"}
 # Not run: the check itself, and what installs packages of a release.
 NO_COMMANDS = ("./check", "apt-get")
-# How many words README.md may have, code apart.
-MOST_WORDS = 1000
 
 
 def files_of_project():
@@ -163,12 +160,20 @@ def faults_of_sources():
 
 
 def faults_of_numbers():
-    """Numbers that README.md tells of speed, and that docs/NUMBERS.md has not."""
-    told = (ROOT / "README.md").read_text().split("\n## How fast\n")[1].split("\n## ")[0]
+    """Speeds in README.md that docs/NUMBERS.md doesn't have."""
+    section = (ROOT / "README.md").read_text().split("\n## How fast\n")[1].split("\n## ")[0]
     known = set(re.findall(r"[\d,.]*\d", (ROOT / "docs" / "NUMBERS.md").read_text()))
-    for number in re.findall(r"\d{1,3}(?:,\d{3})+|\d+\.\d+", told):
+    for number in re.findall(r"\d{1,3}(?:,\d{3})+|\d+\.\d+", section):
         if number not in known:
             yield f"README.md: docs/NUMBERS.md doesn't have {number}"
+
+
+def faults_of_quotes(page, text):
+    """Blocks that a page quotes from a file, as in: From `crates/..`: and a block; those whose lines the file doesn't have."""
+    for name, block in re.findall(r"From `([\w./]+)`:\n\n```\w*\n(.*?)^```$", text, re.M | re.S):
+        source = ROOT / name
+        if not source.exists() or block not in source.read_text():
+            yield f"{name} has other lines than the block that begins: {block.strip().splitlines()[0]}"
 
 
 # ---- declarations
@@ -310,7 +315,7 @@ def faults_of_hll(code):
 
 @functools.lru_cache(None)
 def targets_of(folder):
-    """The targets of a folder's Makefile; those of all of them where no folder is told."""
+    """The targets of a folder's Makefile; those of all of them if no folder is given."""
     if folder is None:
         return set().union(*(targets_of(path.parent) for path in files_of_project() if path.name == "Makefile"))
     makefile = ROOT / folder / "Makefile"
@@ -377,7 +382,7 @@ def check_names():
     failed = 0
     for page in pages():
         text = page.read_text()
-        faults = {*faults_of_files(page, text), *faults_of_declarations(page, text)}
+        faults = {*faults_of_files(page, text), *faults_of_quotes(page, text), *faults_of_declarations(page, text)}
         faults.update(faults_of_commands(text, words))
         if page.name not in OTHERS:
             faults |= {f"no name {name} in the sources" for name in names_in(text) if name not in words}
@@ -390,24 +395,6 @@ def check_names():
     print(made.stdout if made.returncode else "", end="")
     failed += bool(of_sources) + bool(made.returncode)
     return len(pages()) + 2 - failed, failed
-
-
-# ---- words
-
-
-def words_of_page(page):
-    """How many words a page has, outside of code: what has a letter or a digit, between spaces."""
-    text = re.sub(r"^```.*?^```$", "", page.read_text(), flags=re.M | re.S)
-    text = re.sub(r"^    .*$", "", text, flags=re.M)
-    return sum(1 for word in text.split() if re.search(r"\w", word))
-
-
-def check_words():
-    """README.md has no more words than it may."""
-    count = words_of_page(ROOT / "README.md")
-    if count > MOST_WORDS:
-        print(f"README.md: {count} words, and {MOST_WORDS} at most")
-    return (1, 0) if count <= MOST_WORDS else (0, 1)
 
 
 # ---- commands
@@ -485,7 +472,7 @@ def run_scale():
 def check_commands():
     """One test for each command of the pages for users."""
     results = run_page("README.md") + run_page("CALLING.md", "cat >") + run_page("SECURITY.md", "hll ")
-    results += run_page("docs/PLAN.md", "bin/")
+    results += run_page("docs/PLAN.md", ("bin/", "printf ")) + run_page("docs/PROVED.md", "printf ")
     results += run_page("docs/OPERATING.md", "hll ", "mkdir sketches && hll new sketches/1.hll") + run_scale()
     return results.count(True), results.count(False)
 
@@ -494,34 +481,33 @@ def check_commands():
 
 
 def plans_of_faults():
-    """Pairs of a plan of docs/FAULTS.md and what the program answers."""
+    """Pairs of a plan of docs/FAULTS.md and what it says that the program prints."""
     plan, plans = [], []
     for line in (ROOT / "docs" / "FAULTS.md").read_text().splitlines():
         if line.startswith("    "):
             plan.append(line[4:] + "\n")
             continue
-        told = re.match(r"- Here: `([^`]*)`", line)
-        if told:
-            plans.append(("".join(plan), told.group(1)))
+        printed = re.match(r"- Here: `([^`]*)`", line)
+        if printed:
+            plans.append(("".join(plan), printed.group(1)))
             plan = []
     return plans
 
 
 def check_plans():
-    """One test for each plan: the program answers as the page says."""
+    """One test for each plan: the program prints what the page says."""
     failed = 0
-    for plan, told in plans_of_faults():
+    for plan, wanted in plans_of_faults():
         ran = subprocess.run([ROOT / "bin" / "hll_merge"], input=plan, capture_output=True, text=True)
-        answer = (ran.stdout + ran.stderr).strip()
-        if answer != told:
+        printed = (ran.stdout + ran.stderr).strip()
+        if printed != wanted:
             failed += 1
-            print(f"docs/FAULTS.md: {plan}answered {answer}, not {told}")
+            print(f"docs/FAULTS.md: {plan}printed {printed}, not {wanted}")
     return len(plans_of_faults()) - failed, failed
 
 
 def main():
-    parts = {
-        "names": check_names, "words": check_words, "messages": messages.check, "commands": check_commands, "plans": check_plans}
+    parts = {"names": check_names, "words": wording.check, "commands": check_commands, "plans": check_plans}
     passed = failed = 0
     for part in sys.argv[1:] or parts:
         more_passed, more_failed = parts[part]()
