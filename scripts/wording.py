@@ -113,6 +113,12 @@ def documentation(language):
             yield path, line, without_code(part)
 
 
+PARAGRAPH = {
+    ".md": re.compile(r"(?:^.*\S.*\n?)+", re.M),
+    ".1": re.compile(r"^.+(?:\n(?!\.(?:Sh|Pp|It)\b).+)*", re.M),
+}
+
+
 def pages(patterns):
     """The file, the line and the text of each paragraph of pages."""
     for path in files(patterns):
@@ -120,7 +126,7 @@ def pages(patterns):
         if path.name == "FORMAT.md":
             text = text.replace(table_of_words(), "\n" * table_of_words().count("\n"))
         text = without_code(text) if path.suffix == ".md" else text
-        for found in re.finditer(r"(?:^.*\S.*\n?)+", text, re.M):
+        for found in PARAGRAPH[path.suffix].finditer(text):
             yield path, line_at(text, found.start()), found[0]
 
 
