@@ -2,7 +2,7 @@
 # SPDX-License-Identifier: Apache-2.0
 """Times calls of the package at lg_k 12, beside the calls of the library alone, and prints a table.
 
-Times are of this process's processor time. Both calls of a row run in turn; what is told is the
+Times are of this process's processor time. Both calls of a row run in turn; what is printed is the
 median of eleven turns, and that of the ratios. Threads are timed by the clock on the wall.
 """
 import pathlib

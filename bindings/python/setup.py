@@ -33,7 +33,7 @@ OLDEST = 17
 
 def platform_of(library):
     """The platform's tag of the shared library: manylinux by the newest symbol of glibc that it
-    calls, if it needs no other library (PEP 600); None where that can't be told."""
+    calls, if it needs no other library (PEP 600); or None if that can't be known."""
     words = ["readelf", "-hdVW", str(library)]
     try:
         said = subprocess.run(words, capture_output=True, text=True, check=True).stdout

@@ -1,8 +1,8 @@
 # SPDX-License-Identifier: Apache-2.0
 """HyperLogLog sketches in the DataSketches format.
 
-A sketch counts distinct values in a few kilobytes, within a per cent or two, and sketches merge
-into that of all their values.
+A sketch counts distinct values in a few kilobytes, within a per cent or two. Sketches can be
+merged into the sketch of all their values.
 
     >>> from hll_sketches import Sketch, union_of
     >>> monday, tuesday = Sketch(), Sketch()
@@ -11,7 +11,7 @@ into that of all their values.
     >>> round(union_of([monday, tuesday]).estimate())
     4
 
-Sketches, and their images as bytes, are read, made and merged by proved calls of a shared library.
+Proved calls of a shared library read, make and merge sketches and their images, which are bytes.
 Estimates, and this package itself, are tested and not proved.
 """
 from ._errors import ArgumentError, FilesError, HllError, ImageError, PrecisionError

@@ -1,12 +1,12 @@
 # SPDX-License-Identifier: Apache-2.0
-"""The command ``hll``, which ``python3 -m hll_sketches`` is too."""
+"""The command ``hll``, also as ``python3 -m hll_sketches``."""
 import sys
 
 from ._signals import end_at_once
 
 
 def main() -> int:
-    """Runs the command, and gives its status."""
+    """Runs the command, and returns its status."""
     end_at_once()
     from . import cli
 

@@ -1,8 +1,8 @@
 # SPDX-License-Identifier: Apache-2.0
-"""Columns: numbers, or byte strings of one width, that lie in memory one after another.
+"""Columns: numbers, or byte strings of one width, in contiguous memory.
 
-What shows its memory (a NumPy array, an ``array.array``, a ``memoryview``, a pandas ``Series`` of
-numbers) is taken by its format, and no value of it becomes an object of Python.
+An object that shares its memory (a NumPy array, an ``array.array``, a ``memoryview``, a pandas
+``Series`` of numbers) is read by its format, and none of its values becomes a Python object.
 """
 from __future__ import annotations
 
@@ -20,20 +20,20 @@ from ._library import Numbers
 from ._missing import Missing
 
 Batch = Tuple[bytes, Numbers, int]
-"""The bytes of values, one after another; their ends, and maybe more; and how many there are."""
+"""The concatenated bytes of values; their ends, maybe followed by others; and the number of values."""
 
 Part = Callable[[int, int], bytes]
-"""The bytes that are hashed for the values from one number to another."""
+"""Returns the bytes that are hashed for the values from one index to another."""
 
 NAN = float("nan")
 
 FEW = 16
-"""Where one number in so many needs a look, all are looked at."""
+"""If more than one number in this many needs a closer look, all numbers are looked at."""
 
 
 class Column(NamedTuple):
-    """So many values of so many bytes each; or of fewer, where zeros at the end don't count, and
-    then byte strings without them can be asked for. Real numbers may be NaN."""
+    """Values of one number of bytes each. In byte strings of one width, zeros at the end may not
+    count, and ``batch`` then returns the strings without them. Real numbers may be NaN."""
 
     length: int
     width: int
@@ -42,8 +42,8 @@ class Column(NamedTuple):
     is_real: bool = False
 
     def batch(self, start: int, stop: int, missing: Optional[Missing] = None) -> Batch:
-        """The values from one number to another; NaN is a value like any other, unless something
-        is to be done about missing ones."""
+        """Returns the values from one index to another. NaN is a value like any other, unless
+        ``missing`` says what to do about missing values."""
         data, count = self.part(start, stop), stop - start
         if self.is_real and missing is not None:
             data = missing.without_nan(data, start)
@@ -58,19 +58,19 @@ class Column(NamedTuple):
 
 
 def bytes_of_float(value: float) -> bytes:
-    """Eight bytes, binary64, little-endian: -0.0 as 0.0, and one NaN for all."""
+    """Returns the binary64 of a float, little-endian, with -0.0 as 0.0 and one NaN for all NaN."""
     return struct.pack("<d", value + 0.0 if value == value else NAN)
 
 
 def eights_of_floats(values: List[float]) -> bytes:
-    """The bytes of many floats."""
+    """Returns the bytes of many floats, as ``bytes_of_float`` does."""
     return struct.pack(
         f"<{len(values)}d", *[value + 0.0 if value == value else NAN for value in values]
     )
 
 
 def _normal(data: bytes) -> bytes:
-    """Words of binary64, little-endian, with -0.0 as 0.0, and one NaN for all."""
+    """Returns little-endian binary64 numbers with -0.0 as 0.0 and one NaN for all NaN."""
     highest = data[7::8]
     suspects = [byte for byte in (0x7F, 0x80, 0xFF) if byte in highest]     # of -0.0 and NaN
     if not suspects:
@@ -87,7 +87,7 @@ def _normal(data: bytes) -> bytes:
 
 
 def _normal_of_array(values: Any) -> bytes:
-    """The same of an array of NumPy."""
+    """Does what ``_normal`` does, for a NumPy array."""
     made = values.astype("<f8") + 0.0
     made[made != made] = NAN
     return bytes(made.tobytes())
@@ -96,21 +96,21 @@ def _normal_of_array(values: Any) -> bytes:
 # ---- formats
 
 _SIGNS = bytes(128) + b"\xff" * 128
-"""For the highest byte of a number, those above it in eight bytes."""
+"""The bytes above the highest byte of a signed number, when it is extended to eight bytes."""
 
 
 _TRUTHS = b"\0" + b"\1" * 255
-"""For the byte of a boolean, 0 or 1."""
+"""The bytes of a boolean: 0 or 1."""
 
 
 def _is_little(view: memoryview) -> bool:
-    """Whether the lowest byte of a number is the first one."""
+    """Returns whether the lowest byte of a number comes first."""
     order = view.format[:1]
     return order == "<" or (order not in (">", "!") and sys.byteorder == "little")
 
 
 def _in_eight(data: bytes, width: int, is_little: bool, is_signed: bool) -> bytes:
-    """Numbers of so many bytes in eight each, the lowest first."""
+    """Returns numbers of ``width`` bytes as eight bytes each, little-endian."""
     made = bytearray(len(data) // width * 8)
     for at in range(width):
         made[at::8] = data[(at if is_little else width - 1 - at) :: width]
@@ -122,7 +122,7 @@ def _in_eight(data: bytes, width: int, is_little: bool, is_signed: bool) -> byte
 
 
 def _integers(view: memoryview, is_signed: bool) -> Part:
-    """Integers."""
+    """Returns a function that makes eight bytes each of integers."""
     width, is_little = view.itemsize, _is_little(view)
     if width == 8 and is_little:
         return _bytes_of(view)
@@ -130,7 +130,7 @@ def _integers(view: memoryview, is_signed: bool) -> Part:
 
 
 def _floats(source: Any, view: memoryview) -> Part:
-    """Floats of eight bytes as they are, of others as those."""
+    """Returns a function that makes eight bytes each of floats of any size up to eight bytes."""
     if hasattr(source, "astype"):
         return lambda start, stop: _normal_of_array(source[start:stop])
     if view.itemsize == 8:
@@ -146,7 +146,7 @@ def _floats(source: Any, view: memoryview) -> Part:
 
 
 def _numbers(source: Any, view: memoryview) -> Optional[Part]:
-    """How numbers become bytes; None where the format is another one."""
+    """Returns how numbers become bytes, or None if the format is not one of numbers."""
     code = view.format.lstrip("@=<>!")
     if code in ("b", "h", "i", "l", "q", "n"):
         return _integers(view, True)
@@ -158,7 +158,7 @@ def _numbers(source: Any, view: memoryview) -> Optional[Part]:
 
 
 def _bytes_of(view: memoryview) -> Part:
-    """The bytes as they stand."""
+    """Returns a function that returns byte strings unchanged."""
     return lambda start, stop: view[start:stop].tobytes()
 
 
@@ -166,7 +166,7 @@ def _bytes_of(view: memoryview) -> Part:
 
 
 def _view_of(values: object) -> Optional[memoryview]:
-    """The memory of values, if they show it, and no value is masked."""
+    """Returns the memory of values, if they share it and no value is masked."""
     if hasattr(values, "mask"):
         return None
     try:
@@ -176,7 +176,7 @@ def _view_of(values: object) -> Optional[memoryview]:
 
 
 def column_of(values: Any) -> Optional[Column]:
-    """Values as a column; None where they are none, or are of another format.
+    """Returns values as a column, or None if they are not one, or have another format.
 
     Raises
     ------
@@ -202,13 +202,13 @@ def column_of(values: Any) -> Optional[Column]:
 
 
 def _lists_of(values: Any) -> Callable[[int, int], List[Any]]:
-    """Lists of the values of an array of NumPy, each as an object of Python."""
+    """Yields lists of the values of a NumPy array, as Python objects."""
     return lambda start, stop: list(values[start:stop].tolist())
 
 
 def singly(values: Any) -> Iterable[Any]:
-    """Values as objects of Python, those of an array of NumPy a batch at a time; dates one by one,
-    as lists would make numbers of some."""
+    """Returns values as Python objects. A NumPy array is converted a batch at a time, but dates one at
+    a time, as lists would turn some of them into numbers."""
     is_of_dates = getattr(getattr(values, "dtype", None), "kind", "") in ("M", "m")
     is_array = hasattr(values, "dtype") and hasattr(values, "tolist")
     if is_of_dates or not is_array or hasattr(values, "iloc"):
@@ -218,7 +218,8 @@ def singly(values: Any) -> Iterable[Any]:
 
 
 def single_of(value: Any) -> Union[float, int, bytes, None]:
-    """One value that shows its memory as a boolean, a short float or bytes; else None."""
+    """Returns the bytes of one value that shares its memory as a boolean, a short float or bytes,
+    or None for another value."""
     view = _view_of(value)
     if view is None or view.ndim != 0:
         return None
@@ -233,7 +234,7 @@ def single_of(value: Any) -> Union[float, int, bytes, None]:
 
 
 def _ends_in(ends: Any) -> Numbers:
-    """Numbers as the library takes ends, in memory that nobody else changes."""
+    """Returns numbers as ends for the library, in memory that nobody else changes."""
     view = _view_of(ends)
     if view is not None and view.ndim == 1 and view.format[-1:] in "bhilqnBHILQN":
         part = _numbers(ends, view)
@@ -243,7 +244,7 @@ def _ends_in(ends: Any) -> Numbers:
 
 
 def batch_of(data: Any, ends: Any) -> Batch:
-    """Concatenated byte strings, delimited by their ends."""
+    """Returns concatenated byte strings, delimited by their ends, as a batch."""
     taken = _ends_in(ends)
     return data if type(data) is bytes else memoryview(data).tobytes(), taken, len(taken)
 
@@ -255,7 +256,7 @@ _WORD = next(code for code in "IL" if array(code).itemsize == 4)
 
 
 def raw_coupons_in(raw_coupons: Any) -> Numbers:
-    """Raw coupons: an array of 32 bits as it is, a copy of other memory of 32 bits."""
+    """Returns raw coupons: an array of 32-bit numbers itself, or a copy of other 32-bit memory."""
     if isinstance(raw_coupons, array) and raw_coupons.typecode == _WORD:
         return raw_coupons
     view = _view_of(raw_coupons)

@@ -1,5 +1,5 @@
 # SPDX-License-Identifier: Apache-2.0
-"""What is raised."""
+"""The exceptions of this package."""
 from __future__ import annotations
 
 from typing import Any, List, Optional, Tuple
@@ -22,34 +22,34 @@ _MEANINGS = {
 
 
 def explained(reason: str) -> str:
-    """The reason for which bytes are no image, followed by what is wrong with them."""
+    """Returns the reason why bytes are not an image, followed by an explanation."""
     return f"{reason} ({_MEANINGS[reason]})"
 
 
 class HllError(Exception):
-    """The base of the errors of this package.
+    """The base class of the errors of this package.
 
-    Memory that is refused is Python's own ``MemoryError``; a value of a wrong type is
-    ``TypeError``, and an ``int`` that doesn't fit 64 bits is ``OverflowError``.
+    A failed allocation raises ``MemoryError``, a value of a wrong type ``TypeError``, and an ``int``
+    that doesn't fit 64 bits ``OverflowError``.
     """
 
 
 class ArgumentError(HllError, ValueError):
-    """An argument is out of its range."""
+    """An argument is out of range."""
 
 
 class ImageError(HllError, ValueError):
-    """Bytes are no image of a sketch.
+    """Bytes are not the image of a sketch.
 
     Attributes
     ----------
     reason : str
-        Which check they fail: ``truncated``, ``family``, ``version``, ``lgk``, ``width``,
+        The check that fails: ``truncated``, ``family``, ``version``, ``lgk``, ``width``,
         ``stage``, ``preamble``, ``lgarr``, ``count``, ``coupon`` or ``register``.
     number : int or None
-        The number of the image, from 0, where several were given.
+        The index of the image, if several were given.
     place : str or None
-        Where the image is, as the path of its file, where that is known.
+        Where the image is, if that is known, for example the path of its file.
     """
 
     def __init__(
@@ -59,7 +59,7 @@ class ImageError(HllError, ValueError):
         self.reason, self.number, self.place = reason, number, place
 
     def at(self, number: Optional[int], place: Optional[str] = None) -> ImageError:
-        """Return the same error of an image of which the number or the place is known."""
+        """Return this error with the number or the place of the image."""
         return ImageError(self.reason, number, place)
 
     def __str__(self) -> str:
@@ -73,18 +73,18 @@ class ImageError(HllError, ValueError):
 
 
 class PrecisionError(HllError, ValueError):
-    """Sketches have different ``lg_k``, and it was not said at which one to merge them.
+    """Sketches have different ``lg_k``, and no ``lg_max_k`` says at which one to merge them.
 
     Attributes
     ----------
     lg_k : int
         The ``lg_k`` of the sketch that was to be merged.
     other_lg_k : int
-        The ``lg_k`` of what it was to be merged with.
+        The ``lg_k`` of the sketch or union that it was to be merged with.
     number : int or None
-        The number of the sketch, from 0, where several were given.
+        The index of the sketch, if several were given.
     place : str or None
-        Where the sketch is, as the path of its file, where that is known.
+        Where the sketch is, if that is known, for example the path of its file.
     """
 
     def __init__(
@@ -100,7 +100,7 @@ class PrecisionError(HllError, ValueError):
         self._cure = cure
 
     def at(self, number: Optional[int], place: Optional[str] = None) -> PrecisionError:
-        """Return the same error of a sketch of which the number or the place is known."""
+        """Return this error with the number or the place of the sketch."""
         return type(self)(self.lg_k, self.other_lg_k, number, place, self._cure)
 
     def __str__(self) -> str:
@@ -110,12 +110,12 @@ class PrecisionError(HllError, ValueError):
 
 
 class FilesError(HllError, ValueError):
-    """Files are refused, so that no union was made.
+    """Files were rejected, so no union was made.
 
     Attributes
     ----------
     refused : list of (str, str)
-        The path of each, and why.
+        The path of each file, and why it was rejected.
     """
 
     def __init__(self, refused: List[Tuple[str, str]]) -> None:

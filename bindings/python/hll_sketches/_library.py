@@ -1,9 +1,9 @@
 # SPDX-License-Identifier: Apache-2.0
 """The shared library: where it is, and its calls over bytes.
 
-Bytes are passed as they are, without a copy, and no call keeps a pointer. While a call runs, other
-threads of Python run too; but not while a state is changed, so that no thread, and no child that is
-forked, sees one that is half changed.
+Bytes are passed without a copy, and no call keeps a pointer. While a call runs, other Python threads
+run too. They wait while a state is changed, so no thread, and no forked child, sees a state that is
+half changed.
 """
 from __future__ import annotations
 
@@ -54,7 +54,7 @@ WORDS = (
 )
 OK, REGISTER, ARGUMENT, MEMORY, BUFFER, COARSER, OTHER_LG_K = 0, 11, 12, 13, 14, 15, 16
 MOST_KEPT = 1 << 22
-"""A thread keeps no more memory than this for its answers."""
+"""A thread keeps at most this many bytes for its next result."""
 
 LEAST_LG_K, MOST_LG_K = 4, 21
 
@@ -153,7 +153,7 @@ _ANSWERS = {"hll_coupon": c_uint32, "hll_version": c_uint32}
 
 
 def _places() -> List[str]:
-    """Where the library may be, in the order in which it is sought."""
+    """Returns the places where the library may be, in the order in which they are tried."""
     named = os.environ.get("HLL_SKETCHES_LIBRARY")
     if named:
         return [named]
@@ -175,16 +175,16 @@ def _places() -> List[str]:
 # ---- is it the right one?
 
 VERSION = 0, 2
-"""The library is of this version. What it answers of a known image is compared too."""
+"""The version that the library has to have. Its results for a known image are compared too."""
 
 _KNOWN = bytes.fromhex("0201070a030801080500000c")
-"""The image of one coupon, of slot 5 and value 3, at ``lg_k`` 10 and eight bits."""
+"""The 8-bit image at ``lg_k`` 10 of one coupon, of slot 5 and value 3."""
 
 _Structure = TypeVar("_Structure", bound=ctypes.Structure)
 
 
 def _filled(call: Call, kind: Type[_Structure], *more: int) -> _Structure:
-    """What a call tells of the known image, if it fills just the structure."""
+    """Returns what a call says of the known image, if it fills exactly the structure."""
     size, guard = ctypes.sizeof(kind), b"\xa5" * 256
     room = (c_uint8 * (size + len(guard))).from_buffer_copy(b"\xa5" * size + guard)
     told = ctypes.cast(room, POINTER(kind))
@@ -194,14 +194,14 @@ def _filled(call: Call, kind: Type[_Structure], *more: int) -> _Structure:
 
 
 def _check_version(number: int) -> None:
-    """Refuses a library of another version, whatever its last number is."""
+    """Raises an error for a library of another version; the last number may differ."""
     version = number // 1_000_000, number // 1000 % 1000
     if version != VERSION:
         raise ImportError("it is of version %d.%d, and not %d.%d" % (*version, *VERSION))
 
 
 def _check_answers(calls: Dict[str, Call]) -> None:
-    """Refuses a library that answers of a known image in another way."""
+    """Raises an error for a library with other results for the known image."""
     told = _filled(calls["hll_image_info"], Info, ctypes.sizeof(Info))
     if (told.coupons, told.lg_k, told.width, told.stage) != (1, 10, 8, 0):
         raise ImportError("its info is laid out in another way")
@@ -214,7 +214,7 @@ def _check_answers(calls: Dict[str, Call]) -> None:
 
 
 def _calls_of(place: str) -> Dict[str, Call]:
-    """The calls of a library by their names."""
+    """Returns the calls of a library by their names."""
     library, whole = ctypes.CDLL(place), ctypes.PyDLL(place)
     calls = {name: getattr(whole if "_state_" in name else library, name) for name in _CALLS}
     for name, call in calls.items():
@@ -225,7 +225,7 @@ def _calls_of(place: str) -> Dict[str, Call]:
 
 
 def _load() -> Dict[str, Call]:
-    """The calls of the library that is found first."""
+    """Returns the calls of the first library that is found."""
     places = _places()
     if not places:
         raise ImportError(
@@ -244,7 +244,7 @@ def _load() -> Dict[str, Call]:
 
 
 class _Calls:
-    """The calls of the library, which is loaded when one is first made."""
+    """The calls of the library, which is loaded by the first call."""
 
     def __getattr__(self, name: str) -> Call:
         vars(self).update(_load())
@@ -261,17 +261,18 @@ _COUPON = next(code for code in "IL" if array(code).itemsize == 4)
 
 
 def ends_of(pieces: Sequence[bytes]) -> Numbers:
-    """The end of each of the byte strings, once they are concatenated."""
+    """Returns the end of each byte string in the concatenated bytes."""
     return array(_END, accumulate(map(len, pieces)))
 
 
 _MOST_ENDS, _MOST_WIDTHS = 1 << 19, 4
 _ends_kept: Dict[int, Numbers] = {}
-"""By the width of byte strings, the ends of as many as were wanted at once; of few widths."""
+"""For a few widths of byte strings: the ends of the largest number that was needed at once."""
 
 
 def ends_of_width(width: int, count: int) -> Numbers:
-    """The ends of so many strings of one width, and maybe of more. They are not to be changed."""
+    """Returns the ends of ``count`` strings of one width, maybe followed by others. Callers must not
+    change them."""
     kept = _ends_kept.get(width)
     if kept is not None and count <= len(kept):
         return kept
@@ -285,7 +286,7 @@ def ends_of_width(width: int, count: int) -> Numbers:
 
 
 def numbers_of(numbers: Iterable[SupportsIndex]) -> Numbers:
-    """Numbers as ends; each is tested by the call that takes them."""
+    """Returns numbers as ends. The call that uses them checks each."""
     try:
         return array(_END, map(index, numbers))
     except OverflowError:
@@ -293,7 +294,7 @@ def numbers_of(numbers: Iterable[SupportsIndex]) -> Numbers:
 
 
 def numbers_of_eights(data: bytes) -> Numbers:
-    """The same of numbers of eight bytes, the lowest first."""
+    """Returns little-endian 64-bit numbers as ends."""
     if sys.byteorder == "little" and ctypes.sizeof(c_size_t) == 8:
         return array(_END, data)
     return numbers_of(number for number, in struct.iter_unpack("<Q", data))
@@ -303,17 +304,17 @@ _WRONG_ENDS = "ends have to ascend, within the bytes"
 
 
 def _address(numbers: Numbers) -> int:
-    """Where the numbers are; never NULL."""
+    """Returns the address of numbers, which is never NULL."""
     if not numbers:
         numbers.append(0)
     return numbers.buffer_info()[0]
 
 
-# ---- answers
+# ---- results
 
 
 def _refusal(status: int, number: Optional[int] = None) -> Exception:
-    """What is raised for a status."""
+    """Returns the exception for a status."""
     if status == ARGUMENT:
         return ArgumentError("an argument is out of its range")
     if status == MEMORY:
@@ -322,24 +323,24 @@ def _refusal(status: int, number: Optional[int] = None) -> Exception:
 
 
 def _ensure(status: int, refusal: Callable[[int], Exception] = _refusal) -> None:
-    """Raises the exception of a status, unless it is that of success."""
+    """Raises the exception for a status, unless it is success."""
     if status != OK:
         raise refusal(status)
 
 
 class _Kept(threading.local):
-    """The memory into which the last answer of a thread was written, for the next one."""
+    """The memory into which the last result of a thread was written, for the next result."""
 
     memory: Optional[bytearray] = None
 
     def take(self, size: int) -> bytearray:
-        """At least so much memory, which nobody else has; also within a handler of a signal that
-        came while it was in use."""
+        """Returns at least ``size`` bytes that nobody else has. This also holds in a signal handler
+        that runs while the memory is in use."""
         memory, self.memory = self.memory, None
         return memory if memory is not None and len(memory) >= size else bytearray(size)
 
     def give_back(self, memory: bytearray) -> None:
-        """Keeps the memory, unless it is much."""
+        """Keeps the memory, unless it is too large."""
         if len(memory) <= MOST_KEPT:
             self.memory = memory
 
@@ -348,8 +349,8 @@ _kept = _Kept()
 
 
 def _written(call: Call, room: int, *arguments: object, number: Optional[c_size_t] = None) -> bytes:
-    """The image that a call writes; it is asked again where it needs more room. A call over several
-    images tells the number of one that it refuses."""
+    """Returns the image that a call writes. If the call needs more room, it is made again. A call over
+    several images reports the number of an image that it rejects."""
     size = c_size_t()
     more = () if number is None else (byref(number),)
     while True:
@@ -366,7 +367,7 @@ def _written(call: Call, room: int, *arguments: object, number: Optional[c_size_
 
 
 def room_for(lg_k: int) -> int:
-    """Bytes that are enough for nearly each image of this ``lg_k``."""
+    """Returns a number of bytes that is enough for nearly every image at this ``lg_k``."""
     return 64 + (1 << lg_k)
 
 
@@ -374,19 +375,19 @@ def room_for(lg_k: int) -> int:
 
 
 def new(lg_k: int, width: int) -> bytes:
-    """The image of an empty sketch."""
+    """Returns the image of an empty sketch."""
     return _written(_library.hll_image_new, 64, lg_k, width)
 
 
 def info(image: bytes) -> Info:
-    """What an image says."""
+    """Returns what an image says."""
     found = Info()
     _ensure(_library.hll_image_info(image, len(image), byref(found), ctypes.sizeof(Info)))
     return found
 
 
 def check(image: bytes) -> int:
-    """The status of the bytes, which is not that of memory."""
+    """Returns the status of the bytes: success or an image error. A failed allocation is raised."""
     status = _library.hll_image_check(image, len(image))
     if status == MEMORY:
         raise _refusal(status)
@@ -394,21 +395,21 @@ def check(image: bytes) -> int:
 
 
 def histogram(image: bytes) -> List[int]:
-    """How many registers have each value."""
+    """Returns how many registers have each value."""
     found = Histogram()
     _ensure(_library.hll_image_histogram(image, len(image), byref(found)))
     return list(found.counts)
 
 
 def estimation(image: bytes) -> Estimation:
-    """An estimate with its bounds."""
+    """Returns an estimate with its bounds."""
     found = Estimation()
     _ensure(_library.hll_estimate(image, len(image), byref(found)))
     return found
 
 
 def hip_estimation(image: bytes) -> Optional[Estimation]:
-    """The estimate that an image keeps, with its bounds; None where it has none."""
+    """Returns the HIP estimate in an image with its bounds, or None if the image has none."""
     found = Estimation()
     status = _library.hll_hip_estimate(image, len(image), byref(found))
     if status not in (OK, ARGUMENT):
@@ -417,7 +418,7 @@ def hip_estimation(image: bytes) -> Optional[Estimation]:
 
 
 def add(image: bytes, values: bytes, ends: Numbers, count: int) -> bytes:
-    """The image with so many values, delimited by their ends."""
+    """Returns the image with ``count`` more values, delimited by their ends."""
     given = image, len(image), values, len(values), _address(ends), count
     try:
         return _written(_library.hll_image_add, room_for(image[3]), *given)
@@ -426,14 +427,14 @@ def add(image: bytes, values: bytes, ends: Numbers, count: int) -> bytes:
 
 
 def add_coupon(image: bytes, slot: int, value: int) -> bytes:
-    """The image with a coupon."""
+    """Returns the image with one more coupon."""
     return _written(
         _library.hll_image_add_coupon, room_for(image[3]), image, len(image), slot, value
     )
 
 
 def merge(lg_max_k: int, width: int, left: bytes, right: bytes) -> bytes:
-    """The image of the union of two images; an ``ImageError`` has the number of the image."""
+    """Returns the image of the union of two images. An ``ImageError`` has the number of the image."""
     both = left, len(left), right, len(right)
     return _written(
         _library.hll_image_merge, room_for(lg_max_k), lg_max_k, width, *both, number=c_size_t()
@@ -441,7 +442,7 @@ def merge(lg_max_k: int, width: int, left: bytes, right: bytes) -> bytes:
 
 
 def union(lg_max_k: int, width: int, images: Sequence[bytes]) -> bytes:
-    """The image of the union; an ``ImageError`` has the number of the image."""
+    """Returns the image of the union. An ``ImageError`` has the number of the image."""
     joined, ends, count = b"".join(images), ends_of(images), len(images)
     all_ = joined, len(joined), _address(ends), count
     return _written(
@@ -450,32 +451,32 @@ def union(lg_max_k: int, width: int, images: Sequence[bytes]) -> bytes:
 
 
 def fold(image: bytes, lg_k: int) -> bytes:
-    """The image at a smaller ``lg_k``."""
+    """Returns the image at a smaller ``lg_k``."""
     return _written(_library.hll_image_fold, room_for(lg_k), image, len(image), lg_k)
 
 
 def convert(image: bytes, width: int) -> bytes:
-    """The image at a width."""
+    """Returns the image at a width."""
     lg_k = image[3] if len(image) > 3 and image[3] <= MOST_LG_K else LEAST_LG_K
     return _written(_library.hll_image_convert, room_for(lg_k), image, len(image), width)
 
 
 def clear_estimator_fields(image: bytes) -> bytes:
-    """The image with estimator fields of zero."""
+    """Returns the image with estimator fields of zero."""
     return _written(
         _library.hll_image_clear_estimator_fields, room_for(image[3]), image, len(image)
     )
 
 
 def set_estimator_fields(image: bytes) -> bytes:
-    """The image with the fields from which others estimate."""
+    """Returns the image with the estimator fields of its registers."""
     return _written(
         _library.hll_image_set_estimator_fields, room_for(image[3]), image, len(image)
     )
 
 
 def agree(left: bytes, right: bytes) -> bool:
-    """Whether two images have the same registers at the smaller ``lg_k``."""
+    """Returns whether two images have the same registers at the smaller ``lg_k``."""
     same, failed = c_uint8(), c_size_t()
     status = _library.hll_images_agree(
         left, len(left), right, len(right), byref(same), byref(failed)
@@ -486,12 +487,12 @@ def agree(left: bytes, right: bytes) -> bool:
 
 
 def coupon(value: bytes) -> int:
-    """The raw coupon of a value."""
+    """Returns the raw coupon of a value."""
     return _library.hll_coupon(value, len(value))
 
 
 def coupons(values: bytes, ends: Numbers, count: int) -> Numbers:
-    """The raw coupons of so many values, delimited by their ends."""
+    """Returns the raw coupons of ``count`` values, delimited by their ends."""
     made = array(_COUPON, bytes(4 * count))
     if made:
         _ensure(
@@ -502,22 +503,22 @@ def coupons(values: bytes, ends: Numbers, count: int) -> Numbers:
     return made
 
 
-# ---- registers of the caller
+# ---- caller-owned registers
 
 def place_of(memory: memoryview) -> Memory:
-    """The bytes of a writable view, without a copy."""
+    """Returns the bytes of a writable view, without a copy."""
     return (c_uint8 * len(memory)).from_buffer(memory)
 
 
 def _refused_registers(status: int) -> Exception:
-    """What is raised for a status that is not one of an image."""
+    """Returns the exception for a status that is not an image error."""
     if status == REGISTER:
         return ArgumentError("a register is 0 to 63, and a byte is greater")
     return _refusal(status)
 
 
 def add_to(registers: Memory, values: bytes, ends: Numbers, count: int) -> None:
-    """Adds so many values, delimited by their ends, to registers."""
+    """Adds ``count`` values, delimited by their ends, to registers."""
     status = _library.hll_registers_add(
         registers, len(registers), values, len(values), _address(ends), count
     )
@@ -534,7 +535,8 @@ def add_coupons_to(registers: Memory, raw_coupons: Numbers) -> None:
 
 
 def merge_image(registers: Memory, image: bytes) -> Optional[int]:
-    """Merges an image into registers. Its ``lg_k``, where it has fewer; then nothing is changed."""
+    """Merges an image into registers. If it has fewer registers, returns its ``lg_k`` and changes
+    nothing."""
     coarser = c_uint8()
     status = _library.hll_registers_merge(
         registers, len(registers), image, len(image), byref(coarser)
@@ -545,7 +547,7 @@ def merge_image(registers: Memory, image: bytes) -> Optional[int]:
 
 
 def merge_registers(registers: Memory, others: Memory) -> Optional[int]:
-    """Merges other registers. Their ``lg_k``, where they are fewer; then nothing is changed."""
+    """Merges other registers. If they are fewer, returns their ``lg_k`` and changes nothing."""
     coarser = c_uint8()
     status = _library.hll_registers_merge_registers(
         registers, len(registers), others, len(others), byref(coarser)
@@ -556,12 +558,12 @@ def merge_registers(registers: Memory, others: Memory) -> Optional[int]:
 
 
 def fold_registers(registers: Memory, lg_k: int) -> None:
-    """Folds registers, at the front of their bytes."""
+    """Folds registers in place, into the first of their bytes."""
     _ensure(_library.hll_registers_fold(registers, len(registers), lg_k), _refused_registers)
 
 
 def histogram_of(registers: Memory) -> List[int]:
-    """How many registers have each value."""
+    """Returns how many registers have each value."""
     found = Histogram()
     _ensure(
         _library.hll_registers_histogram(registers, len(registers), byref(found)), _refused_registers
@@ -570,7 +572,7 @@ def histogram_of(registers: Memory) -> List[int]:
 
 
 def estimation_of(registers: Memory) -> Estimation:
-    """An estimate from registers, with its bounds."""
+    """Returns an estimate from registers, with its bounds."""
     found = Estimation()
     _ensure(
         _library.hll_registers_estimate(registers, len(registers), byref(found)), _refused_registers
@@ -579,7 +581,7 @@ def estimation_of(registers: Memory) -> Estimation:
 
 
 def image_of(registers: Memory, width: int) -> bytes:
-    """The image of registers, with the fields from which others estimate."""
+    """Returns the image of registers, with their estimator fields."""
     try:
         return _written(
             _library.hll_registers_image, 64 + len(registers), registers, len(registers), width
@@ -595,22 +597,22 @@ STATE_NEW = 40
 
 
 def new_state(lg_k: int) -> Memory:
-    """The state of an empty sketch."""
+    """Returns the state of an empty sketch."""
     state = (c_uint8 * STATE_NEW)()
     _ensure(_library.hll_state_new(lg_k, state, STATE_NEW))
     return state
 
 
 def copied(memory: Memory, size: int = 0) -> Memory:
-    """A copy of memory, which may be larger."""
+    """Returns a copy of memory, which may be larger."""
     made = (c_uint8 * max(size, len(memory)))()
     ctypes.memmove(made, memory, len(memory))
     return made
 
 
 def joined(state: Memory, lg_max_k: int, image: bytes) -> Tuple[Memory, bool]:
-    """The state with an image, in the same memory or in more. False where the image has another
-    ``lg_k``, and the bound is 0; then nothing has changed."""
+    """Merges an image into a state. Returns the state, in the same memory or in a larger copy; or False,
+    without a change, if the image has another ``lg_k`` and the bound is 0."""
     size = c_size_t()
     while True:
         status = _library.hll_state_join(
@@ -625,12 +627,12 @@ def joined(state: Memory, lg_max_k: int, image: bytes) -> Tuple[Memory, bool]:
 
 
 def image_of_state(state: Memory, width: int) -> bytes:
-    """The image of a state, with the fields from which others estimate."""
+    """Returns the image of a state, with the estimator fields of its registers."""
     return _written(_library.hll_state_image, 64 + len(state), state, len(state), width)
 
 
 def trimmed(state: Memory) -> Memory:
-    """The state without the room that was needed to merge into it, if that is most of its memory."""
+    """Returns the state without its free room, if that is most of its memory."""
     size = _size_of_state(state)
     if len(state) <= 2 * size:
         return state
@@ -640,7 +642,7 @@ def trimmed(state: Memory) -> Memory:
 
 
 def _size_of_state(state: Memory) -> int:
-    """``hll_state_size`` of hll.h; all of the memory where coupons are to become registers."""
+    """Returns ``hll_state_size`` of hll.h, or the size of the memory if coupons are to become registers."""
     lg_k = state[4] & 31
     if state[0] == 0x42:
         return STATE_NEW + (1 << lg_k)
@@ -650,7 +652,8 @@ def _size_of_state(state: Memory) -> int:
 
 
 def width_of_state(state: Memory) -> int:
-    """The width of what was joined to a state, or 8 where there were several, or none."""
+    """Returns the width of what was merged into a state, or 8 if the widths differ or nothing was
+    merged."""
     return {1: 4, 2: 6}.get(state[8] & 7, 8)
 
 
@@ -658,10 +661,10 @@ def width_of_state(state: Memory) -> int:
 
 
 def width_of_mode(mode: int) -> int:
-    """The width in the last byte of a header."""
+    """Returns the width in the last byte of a header."""
     return (4, 6, 8, 8)[mode >> 2 & 3]
 
 
 def width_in(image: bytes) -> int:
-    """The width that the header says; 8 where there is none."""
+    """Returns the width in the header of an image, or 8 if it has none."""
     return width_of_mode(image[7]) if len(image) > 7 else 8

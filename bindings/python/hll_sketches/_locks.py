@@ -1,9 +1,9 @@
 # SPDX-License-Identifier: Apache-2.0
-"""Locks that are free in a child that was forked, whoever held them in its parent.
+"""Locks that are free in a forked child, even if another thread held them in the parent.
 
-A child has only the thread that forked, so a lock that another one held would stay held for ever.
-What the locks of this package guard is whole at each moment: one assignment puts a new image in
-place of the old one.
+A child has only the thread that forked, so a lock that another thread held would stay locked
+forever. The locks may be free in the child because what they protect is consistent at each moment:
+a single assignment replaces an old image by a new one.
 """
 from __future__ import annotations
 
@@ -12,11 +12,11 @@ import threading
 
 _renewing = threading.Lock()
 _forks = 0
-"""How often this process was forked, from the first one on."""
+"""How many forks led from the first process to this one."""
 
 
 class Lock:
-    """A lock that its thread may take again."""
+    """A lock that the thread that holds it may acquire again."""
 
     __slots__ = ("_lock", "_forks")
 
@@ -43,8 +43,8 @@ class Lock:
 
 
 loading = threading.RLock()
-"""Held while the library is loaded, and by a thread that forks: no child is left with a loader of
-the system that is at work."""
+"""Held while the library is loaded, and by a thread that forks, so no child is forked while the
+system's loader is at work."""
 
 
 def _in_child() -> None:

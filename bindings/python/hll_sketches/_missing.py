@@ -1,5 +1,5 @@
 # SPDX-License-Identifier: Apache-2.0
-"""Missing values: ``None``, NaN, and what pandas and NumPy have in their place."""
+"""Missing values: ``None``, NaN, and what pandas and NumPy use for them."""
 from __future__ import annotations
 
 import math
@@ -14,7 +14,7 @@ _NAN = struct.pack("<d", math.nan)
 
 
 def _is_missing(value: Any) -> bool:
-    """Whether a value is missing."""
+    """Returns whether a value is missing."""
     if type(value).__name__ in _NAMES:
         return True
     try:
@@ -29,13 +29,13 @@ def _refusal(number: int, value: object) -> ArgumentError:
 
 
 class Missing:
-    """What is done about missing values: they are passed over, or refused."""
+    """What is done about missing values: they are skipped, or raise an error."""
 
     def __init__(self, skips: bool) -> None:
         self.skips = skips
 
     def without(self, values: List[Any], start: int) -> List[Any]:
-        """Values, numbered from a start, without those that are missing."""
+        """Yields the values that are not missing. The first value has the number ``start``."""
         kinds = set(map(type, values))
         if kinds <= _PLAIN or kinds == {float} and not math.isnan(sum(values)):
             return values
@@ -47,7 +47,7 @@ class Missing:
         return values
 
     def without_nan(self, eights: bytes, start: int) -> bytes:
-        """Floats of eight bytes, as they are hashed, without those that are NaN."""
+        """Returns floats, eight bytes each as they are hashed, without NaN."""
         at = eights.find(_NAN)
         while at >= 0 and at % 8:
             at = eights.find(_NAN, at + 1)

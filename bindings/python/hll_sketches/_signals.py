@@ -1,8 +1,8 @@
 # SPDX-License-Identifier: Apache-2.0
 """Signals that end the command.
 
-Python's own handlers run only between its instructions, and a call of the library over many images can take minutes.
-So the command has none: the kernel ends it at once, wherever it is.
+Python runs its handlers only between instructions, and a call of the library over many images can
+take minutes. So the command has no handlers, and the kernel ends it at once.
 """
 from __future__ import annotations
 
@@ -14,14 +14,14 @@ ENDING = (signal.SIGINT, signal.SIGTERM, signal.SIGHUP)
 
 
 def end_at_once() -> None:
-    """Takes Python's handler of an interrupt away. One that is ignored stays ignored."""
+    """Removes Python's handler of interrupts. If interrupts are ignored, they stay ignored."""
     if signal.getsignal(signal.SIGINT) is signal.default_int_handler:
         signal.signal(signal.SIGINT, signal.SIG_DFL)
 
 
 @contextmanager
 def held_back(*signals: signal.Signals) -> Iterator[None]:
-    """Signals that come meanwhile are delivered after it."""
+    """Delays signals until the block ends."""
     before = signal.pthread_sigmask(signal.SIG_BLOCK, signals)
     try:
         yield

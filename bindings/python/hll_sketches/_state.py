@@ -1,5 +1,5 @@
 # SPDX-License-Identifier: Apache-2.0
-"""Unions, in states of the library."""
+"""Unions, as states of the library (``hll_state_*`` of hll.h)."""
 from __future__ import annotations
 
 from itertools import islice
@@ -10,23 +10,23 @@ from . import _library
 from ._errors import ImageError, PrecisionError
 
 DEFAULT = 12
-"""The ``lg_k`` where none is given, and nothing to take it from."""
+"""The ``lg_k`` of a union if none is given and no sketch was merged."""
 
 BATCH_IMAGES, BATCH_BYTES = 4096, 1 << 18
-"""So many images, or bytes of images, are enough for a call: they fit a cache."""
+"""The number of images, and of their bytes, that are merged by one call: they fit a cache."""
 
 LARGE = 1 << 16
-"""An image of more bytes is read before it is joined, as other threads wait while a state changes, and
-an untrusted one can take a second to read."""
+"""A larger image is checked before it is merged: other threads wait while a state changes, and an
+untrusted image can take a second to read."""
 
 _S = TypeVar("_S", bound="State")
 
 _kind = itemgetter(slice(3, 8, 4))
-"""The bytes of an image that have its ``lg_k`` and its width; fewer, if it is too short."""
+"""The part of an image that has its ``lg_k`` and its width."""
 
 
 def _kinds(images: Iterable[bytes]) -> Set[Tuple[int, int]]:
-    """Each ``lg_k`` and width that the headers of images have; 0 for what is out of range."""
+    """Returns the pairs of ``lg_k`` and width in the headers of images; 0 for a number out of range."""
     found = set()
     for kind in set(map(_kind, images)):
         lg_k, mode = kind if len(kind) == 2 else (0, 0)
@@ -36,15 +36,15 @@ def _kinds(images: Iterable[bytes]) -> Set[Tuple[int, int]]:
 
 
 class State:
-    """The union of images, which grows in memory of its own (``hll_state_*`` of hll.h).
+    """The union of images, in memory that grows.
 
-    It follows the rule of ``hll_state_join``. Without a bound, images of one ``lg_k`` are merged at
-    it, and no others; empty ones count for nothing.
+    The rule is that of ``hll_state_join``. Without a bound, only images of one ``lg_k`` are merged,
+    and empty images count for nothing.
 
     Parameters
     ----------
     lg_max_k : int
-        The largest ``lg_k`` of the union, 4 to 21; or 0 for no bound.
+        The largest ``lg_k`` of the union, 4 to 21, or 0 for no bound.
 
     Attributes
     ----------
@@ -59,7 +59,7 @@ class State:
         self._memory = _library.new_state(lg_max_k or _library.LEAST_LG_K)
 
     def copy(self: _S) -> _S:
-        """Return a state of the same images."""
+        """Return an independent copy."""
         made = type(self).__new__(type(self))
         made.lg_max_k, made.count = self.lg_max_k, self.count
         made._memory = _library.copied(self._memory)
@@ -67,12 +67,13 @@ class State:
 
     @property
     def lg_k(self) -> int:
-        """The ``lg_k`` of the union so far; that of ``image`` where there are no images."""
+        """The ``lg_k`` of the union so far; without images, the ``lg_k`` that ``image`` uses."""
         return self._memory[4] & 31 if self.count or self.lg_max_k else DEFAULT
 
     @property
     def width(self) -> int:
-        """The width of the images that are not empty, or of all; 8 where they differ."""
+        """The width of the images that are not empty, or of all images if all are empty; 8 if the
+        widths differ."""
         return _library.width_of_state(self._memory)
 
     def join(self, image: bytes) -> None:
@@ -81,7 +82,7 @@ class State:
         Raises
         ------
         ImageError
-            If the bytes are no image. Then nothing has changed.
+            If the bytes are not an image. Then nothing has changed.
         PrecisionError
             If the image has another ``lg_k``, and there is no bound. Then nothing has changed.
         """
@@ -93,9 +94,9 @@ class State:
         self.count += 1
 
     def join_all(self, images: Sequence[bytes]) -> None:
-        """Merges images: in one call where their headers have one ``lg_k`` and one width.
+        """Merges images, in one call if their headers have one ``lg_k`` and one width.
 
-        An error has the ``number`` of the image that is refused; those before it have been merged.
+        An error has the ``number`` of the image. The images before it have been merged.
         """
         kinds = _kinds(images)
         if len(kinds) == 1 and self._join_at_once(images, *kinds.pop()):
@@ -107,8 +108,8 @@ class State:
                 raise error.at(number) from None
 
     def _join_at_once(self, images: Sequence[bytes], lg_k: int, width: int) -> bool:
-        """Merges images of one ``lg_k`` and width. False, and nothing has changed, if the ``lg_k``
-        is no such number, or another one than that of the union."""
+        """Merges images of one ``lg_k`` and width. Returns False, without a change, if the ``lg_k`` is
+        out of range or is not that of the union."""
         if not lg_k:
             return False
         try:
@@ -125,7 +126,7 @@ class State:
         return True
 
     def join_stream(self, images: Iterable[bytes]) -> None:
-        """Merges images as they come, in batches."""
+        """Merges images of an iterable, in batches."""
         source, most = iter(images), 8
         before = self.count
         while True:
@@ -141,13 +142,12 @@ class State:
             most = max(1, min(BATCH_IMAGES, 8 * most, most * BATCH_BYTES // size + 1))
 
     def image(self, width: Optional[int] = None) -> bytes:
-        """The image of the union.
+        """Return the image of the union.
 
         Parameters
         ----------
         width : int, optional
-            The bits of a register, 4, 6 or 8. If it is not given, it is that of the images that are
-            not empty, or 8 where they differ.
+            The bits of a register, 4, 6 or 8. By default it is ``self.width``.
         """
         if not self.count and not self.lg_max_k:
             return _library.new(DEFAULT, width or 8)
@@ -157,7 +157,7 @@ class State:
 
 
 def united(images: Sequence[bytes], lg_max_k: int = 0) -> bytes:
-    """The image of the union of images, as of ``State``."""
+    """Returns the image of the union of images, by the rule of ``State``."""
     state = State(lg_max_k)
     state.join_all(images)
     return state.image()

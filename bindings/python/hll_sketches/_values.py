@@ -19,10 +19,10 @@ Value = Union[bytes, bytearray, memoryview, str, int, float, SupportsIndex]
 """What can be counted: bytes, text, or a number."""
 
 LEAST, MOST, ENOUGH = 1 << 10, 1 << 16, 1 << 20
-"""A first batch has so many values, the largest so many, and so many bytes are enough for one."""
+"""The values of the first batch, the most values of a batch, and the bytes that are enough for one."""
 
 def bytes_of_int(value: int) -> bytes:
-    """Eight bytes, little-endian, in two's complement."""
+    """Returns the eight bytes of an int, little-endian, in two's complement."""
     try:
         return value.to_bytes(8, "little", signed=value < 0)
     except OverflowError:
@@ -43,13 +43,13 @@ _of_type: Dict[type, Callable[..., bytes]] = {
 
 
 def bytes_of(value: Value) -> bytes:
-    """The bytes that are hashed for a value."""
+    """Returns the bytes that are hashed for a value."""
     call = _of_type.get(type(value))
     return call(value) if call is not None else _bytes_of_other(value)
 
 
 def _bytes_of_other(value: Value) -> bytes:
-    """The same for a type that is derived from one of those, is NumPy's, or stands for an int."""
+    """Returns the bytes of a value of a derived type, of a NumPy type, or of a type with ``__index__``."""
     for kind, call in _of_type.items():
         if isinstance(value, kind):
             return call(value)
@@ -75,11 +75,11 @@ _CURES = {
     "tuple": "pass one text that has its parts, as JSON does",
     "dict": "pass one text that has its parts, as JSON does",
 }
-"""By the name of a type whose values aren't counted, what to do."""
+"""For types whose values can't be counted: what to do instead."""
 
 
 def _wrong_type(value: object) -> TypeError:
-    """The refusal of a value of a type that isn't counted."""
+    """Returns the error for a value of a type that can't be counted."""
     name = type(value).__name__
     is_many = hasattr(value, "__iter__")
     cure = "pass one value, or many to update_many" if is_many else "pass its bytes or its str()"
@@ -88,7 +88,7 @@ def _wrong_type(value: object) -> TypeError:
 
 
 def _eights_of_ints(values: List[int]) -> bytes:
-    """The bytes of many ints."""
+    """Returns the bytes of many ints."""
     try:
         numbers = array("q", values)
     except OverflowError:
@@ -99,7 +99,7 @@ def _eights_of_ints(values: List[int]) -> bytes:
 
 
 def joined(values: List[Any]) -> Batch:
-    """The bytes of values, one after another, with their ends."""
+    """Returns the concatenated bytes of values, with their ends."""
     kinds, count = set(map(type, values)), len(values)
     if kinds == {int}:
         return _eights_of_ints(values), _library.ends_of_width(8, count), count
@@ -115,7 +115,7 @@ def joined(values: List[Any]) -> Batch:
 
 
 def _lines(file: Iterable[Value]) -> Iterator[Value]:
-    """The lines of an open file without the LF, as ``hll add`` takes them."""
+    """Yields the lines of an open file without the LF, as ``hll add`` counts them."""
     for line in file:
         if isinstance(line, str):
             yield line[:-1] if line.endswith("\n") else line
@@ -126,7 +126,7 @@ def _lines(file: Iterable[Value]) -> Iterator[Value]:
 
 
 def _refuse_one(values: object) -> None:
-    """Refuses what is no iterable of values, though Python could iterate over it."""
+    """Raises an error for an iterable that is one value or a table."""
     name = type(values).__name__
     if isinstance(values, memoryview) and (values.ndim != 1 or values.itemsize > 1):
         return
@@ -143,8 +143,8 @@ def _refuse_one(values: object) -> None:
 
 
 def _batches_of(column: Column, size: int, missing: Optional[Missing]) -> Iterator[Batch]:
-    """The values of a column, in batches of at most half of `ENOUGH` bytes; of more where an image
-    of this size is read and written for each."""
+    """Yields the values of a column in batches of at most half of `ENOUGH` bytes. If the image is large,
+    batches are larger, as the image is read and written for each."""
     most = max(1, min(max(ENOUGH // 2, size), 4 * ENOUGH) // column.width)
     for start in range(0, column.length, most):
         yield column.batch(start, min(start + most, column.length), missing)
@@ -153,9 +153,9 @@ def _batches_of(column: Column, size: int, missing: Optional[Missing]) -> Iterat
 def batches(
     values: Iterable[Value], size: int = 0, missing: Optional[Missing] = None
 ) -> Iterator[Batch]:
-    """The bytes of the values and their ends, in batches of about `ENOUGH` bytes.
+    """Yields the bytes of the values and their ends, in batches of about `ENOUGH` bytes.
 
-    An image of `size` bytes is read and written for each.
+    An image of `size` bytes is read and written for each batch.
     """
     _refuse_one(values)
     column = column_of(values)
@@ -180,7 +180,7 @@ def batches(
 
 
 def coupon(value: Value) -> int:
-    """The coupon of a value: what a sketch keeps of it.
+    """Return the coupon of a value: what a sketch stores of it.
 
     Parameters
     ----------
@@ -196,17 +196,17 @@ def coupon(value: Value) -> int:
 
 
 def coupons(values: Iterable[Value]) -> Numbers:
-    """The coupons of many values.
+    """Return the coupons of many values.
 
     Parameters
     ----------
     values : iterable
-        Of what ``coupon`` takes.
+        Values that ``coupon`` accepts.
 
     Returns
     -------
     array.array
-        One number of 32 bits for each value, in their order.
+        One 32-bit number for each value, in the same order.
     """
     made = _library.coupons(b"", _library.ends_of([]), 0)
     for batch in batches(values):

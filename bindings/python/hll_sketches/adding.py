@@ -8,11 +8,11 @@ from . import _library
 from ._values import bytes_of_int, joined
 
 BLOCK = 1 << 20
-"""So many bytes are read at a time."""
+"""The number of bytes that are read at a time."""
 
 
 class LineError(ValueError):
-    """A line is no integer.
+    """A line is not an integer.
 
     Attributes
     ----------
@@ -28,7 +28,7 @@ class LineError(ValueError):
 
 
 def _int_of(line: bytes) -> int:
-    """The integer of a line; spaces around it, and a CR, don't count."""
+    """Returns the integer of a line. Spaces around it and a CR are ignored."""
     if b"_" in line:
         raise ValueError
     return int(line)
@@ -40,19 +40,19 @@ class Lines:
     Parameters
     ----------
     image : bytes
-        A legal image, which the lines are added to.
+        A legal image, to which the lines are added.
     are_ints : bool
-        Whether each line is an integer of 64 bits, in decimal, and counts as an ``int``; else it is
-        a text.
+        Whether each line is a decimal 64-bit integer and counts as an ``int``. Otherwise each line
+        is a text.
 
     Attributes
     ----------
     image : bytes
         The image with the lines so far.
     count : int
-        How many there were.
+        The number of lines so far.
     ending_in_cr : int
-        How many texts ended in a CR, which is a part of them.
+        How many texts ended in a CR, which is part of the text.
     """
 
     def __init__(self, image: bytes, are_ints: bool = False) -> None:
@@ -62,20 +62,20 @@ class Lines:
     def add(self, stream: BinaryIO, more: Optional[Callable[[int], None]] = None) -> None:
         """Adds each line of a stream.
 
-        A line is its bytes without the LF. An empty line is a text like any other; after the last
-        LF is no line, unless bytes follow.
+        A line is its bytes without the LF. An empty line is a text like any other. Bytes after the
+        last LF are a line too.
 
         Parameters
         ----------
         stream : binary file
-            It is read to its end, in blocks; a line may be longer than one.
+            It is read to its end, in blocks. A line may be longer than a block.
         more : callable, optional
             Called with the number of lines of each block.
 
         Raises
         ------
         LineError
-            If a line is to be an integer and is none.
+            If lines are integers and this one isn't.
         """
         begun: List[bytes] = []
         for block in iter(lambda: stream.read(BLOCK), b""):
@@ -92,7 +92,7 @@ class Lines:
             self._add_lines([last])
 
     def _add_lines(self, lines: List[bytes]) -> int:
-        """Adds lines, and gives their number."""
+        """Adds lines, and returns their number."""
         if self._are_ints:
             batch = joined(self._ints_of(lines))
         else:
@@ -103,7 +103,7 @@ class Lines:
         return len(lines)
 
     def _ints_of(self, lines: List[bytes]) -> List[int]:
-        """The integers of lines."""
+        """Returns the integers of lines."""
         try:
             return [one for one in map(_int_of, lines) if bytes_of_int(one)]
         except (ValueError, OverflowError):
@@ -112,7 +112,7 @@ class Lines:
 
 
 def _is_int(line: bytes) -> bool:
-    """Whether a line is an integer of 64 bits."""
+    """Returns whether a line is a 64-bit integer."""
     try:
         return bool(bytes_of_int(_int_of(line)))
     except (ValueError, OverflowError):

@@ -1,6 +1,6 @@
 # SPDX-License-Identifier: Apache-2.0
 # PYTHON_ARGCOMPLETE_OK
-"""The command ``hll``: its arguments, and how it ends."""
+"""The command ``hll``: its arguments and its exit status."""
 from __future__ import annotations
 
 import argparse
@@ -33,7 +33,7 @@ that can't be read or written.
 
 
 def _number(least: int, most: float, what: str) -> Callable[[str], int]:
-    """A kind of argument: a number in a range."""
+    """Returns a type of argument: a number in a range."""
 
     def number(text: str) -> int:
         if not (text.isascii() and text.isdigit() and least <= int(text) <= most):
@@ -204,7 +204,7 @@ _MORE = {
 
 
 class _Parser(argparse.ArgumentParser):
-    """A parser whose help is lost no more than other answers are."""
+    """A parser that reports an error if its help can't be written."""
 
     def _print_message(self, message: str, file: Optional[IO[str]] = None) -> None:
         if file is not None and file is sys.stdout:
@@ -214,7 +214,7 @@ class _Parser(argparse.ArgumentParser):
 
 
 def make_parser() -> argparse.ArgumentParser:
-    """The parser of all commands."""
+    """Returns the parser of all commands."""
     raw = argparse.RawDescriptionHelpFormatter
     parser = _Parser("hll", None, _ABOUT, _NOTES, formatter_class=raw)
     parser.add_argument("--version", action="version", version=f"hll {__version__}")
@@ -231,7 +231,7 @@ def make_parser() -> argparse.ArgumentParser:
 
 
 def _completed(parser: argparse.ArgumentParser) -> None:
-    """Answers a shell that asks for completions, if ``argcomplete`` is installed."""
+    """Completes words for a shell that asks, if ``argcomplete`` is installed."""
     if "_ARGCOMPLETE" in os.environ:
         try:
             import argcomplete
@@ -241,7 +241,7 @@ def _completed(parser: argparse.ArgumentParser) -> None:
 
 
 def _chosen(parser: argparse.ArgumentParser, arguments: Optional[List[str]]) -> argparse.Namespace:
-    """The arguments, if they go together."""
+    """Returns the arguments, or reports that they can't be combined."""
     options = parser.parse_args(arguments)
     if getattr(options, "json", False) and getattr(options, "output", None) == STANDARD:
         parser.error("--json and an image on standard output don't go together")
@@ -256,8 +256,8 @@ def _chosen(parser: argparse.ArgumentParser, arguments: Optional[List[str]]) -> 
 
 
 def _held_open() -> None:
-    """Takes the places of standard streams that are closed, so that no file gets one of them. What
-    is done there fails as on a closed stream."""
+    """Opens descriptors in place of closed standard streams, so no file gets one of their numbers.
+    Reading or writing them fails, as on a closed stream."""
     for place, wrong_way in ((0, os.O_WRONLY), (1, os.O_RDONLY), (2, os.O_RDONLY)):
         try:
             os.fstat(place)
@@ -268,7 +268,7 @@ def _held_open() -> None:
 
 
 def _settled() -> None:
-    """Streams and signals as other commands have them."""
+    """Sets up streams and signals as other commands do."""
     end_at_once()
     _held_open()
     for stream in (sys.stdout, sys.stderr):
@@ -279,7 +279,7 @@ def _settled() -> None:
 
 
 def _flushed() -> None:
-    """Writes what was printed."""
+    """Flushes standard output."""
     if sys.stdout is None:
         return
     try:
@@ -289,7 +289,7 @@ def _flushed() -> None:
 
 
 def _carried_out(options: argparse.Namespace) -> int:
-    """Carries out a command, and tells what goes wrong."""
+    """Runs a command and prints what goes wrong."""
     call: Callable[[argparse.Namespace], int] = options.call
     try:
         return call(options)
@@ -310,7 +310,7 @@ def _carried_out(options: argparse.Namespace) -> int:
 
 
 def _run(arguments: Optional[List[str]]) -> int:
-    """Carries out a command line, and gives its status."""
+    """Runs a command line and returns its status."""
     parser = make_parser()
     _completed(parser)
     try:
@@ -325,19 +325,19 @@ def _run(arguments: Optional[List[str]]) -> int:
 
 
 def _interrupted() -> int:
-    """Ends as a process that was interrupted, which a shell tells as 130."""
+    """Ends like a process that was interrupted, which a shell shows as status 130."""
     signal.signal(signal.SIGINT, signal.SIG_DFL)
     os.kill(os.getpid(), signal.SIGINT)
     return 130
 
 
 def main(arguments: Optional[List[str]] = None) -> int:
-    """Runs the command, and gives its status.
+    """Runs the command, and returns its status.
 
     Parameters
     ----------
     arguments : list of str, optional
-        In place of those of the process.
+        The arguments; by default those of the process.
     """
     try:
         _settled()

@@ -1,5 +1,5 @@
 # SPDX-License-Identifier: Apache-2.0
-"""What each command of ``hll`` does. Each answers the status that the program ends with."""
+"""The commands of ``hll``. Each returns the exit status of the program."""
 from __future__ import annotations
 
 import json
@@ -41,23 +41,23 @@ def put_text(text: str) -> None:
         raise OutputTrouble(error) from None
 
 
-def tell(text: object) -> None:
+def put_line(text: object) -> None:
     """Writes text and a line end to standard output."""
     put_text(f"{text}\n")
 
 
 def show(document: object) -> None:
     """Writes one JSON document to standard output."""
-    tell(json.dumps(document, indent=2))
+    put_line(json.dumps(document, indent=2))
 
 
 def finite(number: float) -> Optional[float]:
-    """A number as JSON can have it."""
+    """Returns a number that JSON can represent, or None."""
     return number if math.isfinite(number) else None
 
 
 def each(names: List[str], call: Callable[[str], None]) -> int:
-    """Calls with each file; tells those that are refused, and gives the worst status."""
+    """Calls ``call`` for each file, prints each error, and returns the worst status."""
     worst = OK
     for name in names:
         try:
@@ -74,9 +74,9 @@ def each(names: List[str], call: Callable[[str], None]) -> int:
 
 
 def finished(image: bytes, plain: bool) -> bytes:
-    """The image as it is written: other libraries can estimate from it, unless it is to be plain.
+    """Returns the image as it is written: with estimator fields, unless ``plain`` asks for zeros.
 
-    Estimator fields that another library put there are kept.
+    Estimator fields that another library wrote are kept.
     """
     if plain:
         return _library.clear_estimator_fields(image)
@@ -84,7 +84,7 @@ def finished(image: bytes, plain: bool) -> bytes:
 
 
 def put(options: Namespace, image: bytes, **more: object) -> int:
-    """Writes an image to the output; tells about it where that is asked for."""
+    """Writes an image to the output, and prints a summary if ``--json`` asks for it."""
     check_output(options.output, options.force)
     write_file(options.output, image)
     if options.json:
@@ -96,17 +96,17 @@ def put(options: Namespace, image: bytes, **more: object) -> int:
 
 
 def summary(image: bytes, deviations: int = 2) -> Record:
-    """What is told of an image; ``ImageError`` if it is none.
+    """Returns what is printed about an image. Raises ``ImageError`` if it is not an image.
 
-    Coupons are read once, and then as the library writes them, which is quick.
+    Coupons are read once and written in the library's order, which is quick to read afterwards.
     """
     is_coupons = len(image) < 8 or image[7] & 3 < 2
     quick = _library.convert(image, _library.width_in(image)) if is_coupons else image
-    told, found_ = _library.info(quick), _library.estimation(quick)
+    facts, found_ = _library.info(quick), _library.estimation(quick)
     record: Record = {
-        "stage": STAGES[told.stage],
-        "lg_k": told.lg_k,
-        "width": told.width,
+        "stage": STAGES[facts.stage],
+        "lg_k": facts.lg_k,
+        "width": facts.width,
         "bytes": size_of(image),
         "flags": flags_of(image),
         "estimate": finite(found_.estimate),
@@ -114,23 +114,23 @@ def summary(image: bytes, deviations: int = 2) -> Record:
         "upper": finite(found_.upper[deviations - 1]),
         "deviations": deviations,
     }
-    if told.stage != 2:
-        return {**record, "coupons": told.coupons}
-    bits = struct.pack("<3Q", told.hip, told.kxq0, told.kxq1)
+    if facts.stage != 2:
+        return {**record, "coupons": facts.coupons}
+    bits = struct.pack("<3Q", facts.hip, facts.kxq0, facts.kxq1)
     numbers = map(finite, struct.unpack("<3d", bits))
     named = dict(zip(("hip", "kxq0", "kxq1"), numbers))
     kept = _library.hip_estimation(image)
     named["hip_estimate"] = None if kept is None else kept.estimate
-    return {**record, "zeros": told.zeros, "estimator_fields": estimator_fields_of(image), **named}
+    return {**record, "zeros": facts.zeros, "estimator_fields": estimator_fields_of(image), **named}
 
 
 def rounded(number: Optional[float]) -> str:
-    """A number for people."""
+    """Returns a number as people read it."""
     return "infinite" if number is None else f"{number:,.0f}"
 
 
 def plain_number(number: Optional[float]) -> str:
-    """A number for programs, without commas."""
+    """Returns a number as programs read it, without commas."""
     return rounded(number).replace(",", "")
 
 
@@ -141,37 +141,37 @@ _FIELDS = {
 }
 
 
-def described(name: str, told: Record) -> str:
-    """Some lines about an image."""
-    bounds = f"{rounded(told['lower'])} to {rounded(told['upper'])}"
-    number = 1 << told["lg_k"]
+def described(name: str, facts: Record) -> str:
+    """Returns lines about an image."""
+    bounds = f"{rounded(facts['lower'])} to {rounded(facts['upper'])}"
+    number = 1 << facts["lg_k"]
     rows = [
-        ("stage", told["stage"]),
-        ("lg_k", f"{told['lg_k']}, so {number:,} registers"),
-        ("width", f"{told['width']} bits"),
-        ("estimate", rounded(told["estimate"])),
-        ("bounds", f"{bounds}, at {told['deviations']} standard deviations"),
+        ("stage", facts["stage"]),
+        ("lg_k", f"{facts['lg_k']}, so {number:,} registers"),
+        ("width", f"{facts['width']} bits"),
+        ("estimate", rounded(facts["estimate"])),
+        ("bounds", f"{bounds}, at {facts['deviations']} standard deviations"),
     ]
-    if "coupons" in told:
-        rows.append(("coupons", f"{told['coupons']:,}"))
+    if "coupons" in facts:
+        rows.append(("coupons", f"{facts['coupons']:,}"))
     else:
-        rows += [("zeros", f"{told['zeros']:,}"), ("fields", _FIELDS[told["estimator_fields"]])]
-        if told["hip_estimate"] is not None:
-            rows.append(("hip", f"{rounded(told['hip_estimate'])}, as its writer counted"))
-    rows.append(("flags", ", ".join(told["flags"]) or "none"))
-    rows.append(("bytes", f"{told['bytes']:,}"))
+        rows += [("zeros", f"{facts['zeros']:,}"), ("fields", _FIELDS[facts["estimator_fields"]])]
+        if facts["hip_estimate"] is not None:
+            rows.append(("hip", f"{rounded(facts['hip_estimate'])}, as its writer counted"))
+    rows.append(("flags", ", ".join(facts["flags"]) or "none"))
+    rows.append(("bytes", f"{facts['bytes']:,}"))
     return "\n".join([f"{shown(name)}:", *(f"  {key:<9} {value}" for key, value in rows)])
 
 
 def info(options: Namespace) -> int:
-    """Tells what images say of their sketches."""
+    """Prints what images say of their sketches."""
     records: List[Record] = []
 
     def one(name: str) -> None:
-        told = of_file(name, lambda image: summary(image, options.deviations))
-        records.append({"file": name, **told})
+        facts = of_file(name, lambda image: summary(image, options.deviations))
+        records.append({"file": name, **facts})
         if not options.json:
-            tell(described(name, told))
+            put_line(described(name, facts))
 
     status = each(options.files, one)
     if options.json:
@@ -180,17 +180,17 @@ def info(options: Namespace) -> int:
 
 
 def estimate(options: Namespace) -> int:
-    """Tells the estimates of images."""
+    """Prints the estimates of images."""
     records: List[Record] = []
 
     def one(name: str) -> None:
-        told = of_file(name, lambda image: summary(image, options.deviations or 2))
+        facts = of_file(name, lambda image: summary(image, options.deviations or 2))
         keys = ("estimate", "lower", "upper", "deviations")
-        records.append({"file": name, **{key: told[key] for key in keys}})
+        records.append({"file": name, **{key: facts[key] for key in keys}})
         if not options.json:
             asked = keys[:1] if options.deviations is None else keys[:3]
-            numbers = [plain_number(told[key]) for key in asked]
-            tell("\t".join(numbers if len(options.files) == 1 else [*numbers, shown(name)]))
+            numbers = [plain_number(facts[key]) for key in asked]
+            put_line("\t".join(numbers if len(options.files) == 1 else [*numbers, shown(name)]))
 
     status = each(options.files, one)
     if options.json:
@@ -202,7 +202,7 @@ def estimate(options: Namespace) -> int:
 
 
 def named_files(options: Namespace, refuse: Tell) -> Iterator[str]:
-    """The files of the command line, those below its folders, and those that a file names."""
+    """Returns the files of the command line, those in its folders, and those that a list names."""
     if not options.files and options.files_from is None:
         raise Trouble(options.command, "no files are named", UNUSABLE)
     yield from found(options.files, refuse, say)
@@ -211,7 +211,7 @@ def named_files(options: Namespace, refuse: Tell) -> Iterator[str]:
 
 
 def check(options: Namespace) -> int:
-    """Tells each file that is no image, and why."""
+    """Prints each file that is not an image, and why."""
     checked, refused = 0, []
     troubles: List[Trouble] = []
 
@@ -233,14 +233,14 @@ def check(options: Namespace) -> int:
             reason = _library.WORDS[status]
             refused.append({"file": name, "reason": reason})
             if not options.json:
-                tell(image_trouble(name, reason))
+                put_line(image_trouble(name, reason))
     if options.json:
         show({"checked": checked, "refused": refused})
     return _worst(troubles, DIFFER if refused else OK)
 
 
 def _worst(troubles: List[Trouble], else_: int) -> int:
-    """The worst status, or another where there is none."""
+    """Returns the worst status, or ``else_`` if nothing went wrong."""
     return max((trouble.status for trouble in troubles), default=else_)
 
 
@@ -293,7 +293,7 @@ def convert(options: Namespace) -> int:
 
 
 def new(options: Namespace) -> int:
-    """Writes an empty sketch; a file that is there already stays."""
+    """Writes an empty sketch. Does not overwrite a file."""
     exists = options.output != STANDARD and os.path.lexists(options.output)
     if exists and not options.force:
         raise Trouble(options.output, "File exists (--force replaces it)", UNUSABLE)
@@ -304,8 +304,8 @@ def add(options: Namespace) -> int:
     """Adds the lines of standard input to a sketch.
 
     The lines are read first. Then the file is locked, read, and replaced by its union with the
-    sketch of the lines, so of several ``add`` at once none loses values, and none waits for the
-    input of another one.
+    sketch of the lines. So several ``add`` may run on one file at the same time without losing
+    values, and none waits for the input of another.
     """
     if options.file != STANDARD and not os.path.lexists(options.file):
         raise Trouble(options.file, "No such file or directory (hll new makes it)", UNUSABLE)
@@ -326,7 +326,7 @@ def add(options: Namespace) -> int:
 
 
 def _lines_of_input(lg_k: int, are_ints: bool) -> Lines:
-    """A sketch of the lines of standard input."""
+    """Returns a sketch of the lines of standard input."""
     lines = Lines(_library.new(lg_k, 8), are_ints)
     try:
         with open(os.dup(0), "rb") as stream, Bar("line") as bar:
@@ -344,13 +344,13 @@ def _lines_of_input(lg_k: int, are_ints: bool) -> Lines:
 
 
 def _differing(left: bytes, right: bytes, lg_k: int) -> List[Tuple[int, int, int]]:
-    """The slots that differ at an ``lg_k``, each with both values."""
+    """Yields the slots that differ at an ``lg_k``, each with both values."""
     pairs = zip(registers_of(left, lg_k), registers_of(right, lg_k))
     return [(slot, one, two) for slot, (one, two) in enumerate(pairs) if one != two]
 
 
 def diff(options: Namespace) -> int:
-    """Compares two sketches, at the smaller ``lg_k`` of both; any trouble has status 2."""
+    """Compares two sketches at the smaller ``lg_k`` of both. Any error has status 2."""
     try:
         left, right = image_of_file(options.left), image_of_file(options.right)
     except Trouble as trouble:
@@ -364,11 +364,11 @@ def diff(options: Namespace) -> int:
         show({"agree": agree, "lg_k": lg_k, "differing": len(slots), "slots": rows})
     elif not options.quiet:
         number = f"{len(slots):,} of {1 << lg_k:,} slots"
-        tell(f"agree at lg_k {lg_k}" if agree else f"differ at lg_k {lg_k}, in {number}")
+        put_line(f"agree at lg_k {lg_k}" if agree else f"differ at lg_k {lg_k}, in {number}")
         for slot, one, two in shown:
-            tell(f"slot {slot}: {one} and {two}")
+            put_line(f"slot {slot}: {one} and {two}")
         if len(shown) < len(slots):
-            tell(f"and {len(slots) - len(shown):,} slots more")
+            put_line(f"and {len(slots) - len(shown):,} slots more")
     return OK if agree else DIFFER
 
 
@@ -376,7 +376,7 @@ def diff(options: Namespace) -> int:
 
 
 def plot(options: Namespace) -> int:
-    """Draws the histogram of the registers beside the theory."""
+    """Draws the histogram of the registers, with the histogram that the estimate predicts."""
     from .plot import histogram_svg
 
     image = image_of_file(options.file)

@@ -14,14 +14,14 @@ The functions ``union_of_*`` and ``union_by_key`` build a tree of tasks and retu
 ``sketch_aggregation`` and ``union_aggregation`` are for ``groupby(..).agg(..)`` of a Dask data
 frame, where ``split_every`` and ``split_out`` say how its tree is built.
 
-A task reads images and gives the image of their union; the tasks above merge such images, a few at
-a time. The union is the same however images are grouped, ordered or repeated. So a task that is run
-again, because its worker was lost, changes nothing.
+A task reads images and returns the image of their union. Further tasks merge these images, a few at
+a time. The union is the same however images are grouped, ordered or repeated. So it doesn't change
+if a task runs again because its worker was lost.
 
 Sketches of one ``lg_k`` are merged at it, and sketches of different ``lg_k`` only if ``lg_max_k``
 is given, as by ``hll_sketches.union_of``. Empty sketches count for nothing.
 
-The package and its library have to be on each worker. Needs ``dask`` 2022.12 or later.
+The package and its library have to be installed on each worker. Needs ``dask`` 2022.12 or later.
 """
 from __future__ import annotations
 
@@ -54,7 +54,7 @@ File = Either[Path, fsspec.core.OpenFile]
 Key = Either[str, Sequence[str]]
 Refused = List[Tuple[str, str]]
 Part = Tuple[Optional[bytes], Refused]
-"""The image of a union, if it has sketches, and what was left out of it."""
+"""The image of a union, or None without sketches, and what was left out of it."""
 Parts = Tuple[Dict[Hashable, bytes], Refused]
 """The image of each key, and what was left out."""
 
@@ -62,16 +62,16 @@ LEAST_FILES, MOST_FILES, TASKS_PER_THREAD, SPLIT_EVERY = 64, 4096, 2, 8
 
 
 class PlacedImageError(ImageError):
-    """An image is refused, and it is known where it is.
+    """An image was rejected; the error says where the image is.
 
     Attributes
     ----------
     reason : str
-        Which check it fails, as in ``ImageError``.
+        The check that fails, as in ``ImageError``.
     number : int
-        The number of the file among the paths, or of the row or item in its partition, from 0.
+        The index of the file among the paths, or of the row or item in its partition.
     place : str
-        The path of the file, or the numbers of partition and row.
+        The path of the file, or the numbers of the partition and the row.
     """
 
     def __init__(self, reason: str, number: Optional[int], place: str) -> None:
@@ -79,14 +79,14 @@ class PlacedImageError(ImageError):
 
 
 class LeftOut(NamedTuple):
-    """What ``on_error="skip"`` answers.
+    """The result with ``on_error="skip"``.
 
     Attributes
     ----------
     union : Sketch or pandas.Series
-        What would have been answered without the images that are refused.
+        The union without the images that were rejected.
     refused : list of (str, str)
-        The place of each of these, and why it is refused.
+        The place of each rejected image, and why it was rejected.
     """
 
     union: Any
@@ -97,8 +97,8 @@ class LeftOut(NamedTuple):
 
 
 class _Bounds(NamedTuple):
-    """The bound of a union, or 0; its width, if one was given; and whether images that are refused
-    are left out of it."""
+    """The bound of a union, or 0; its width, if one was given; and whether rejected images are left
+    out of it."""
 
     lg_max_k: int
     width: Optional[int]
@@ -117,8 +117,8 @@ def _accepted(
     refused: Refused,
     accepted: List[int],
 ) -> Iterator[Source]:
-    """Those that are images, with their numbers in ``accepted``; the places of the others, and why,
-    go to ``refused``."""
+    """Yields the images, and appends their numbers to ``accepted``. Appends the places of the others, and
+    why they are rejected, to ``refused``."""
     for number, source in enumerate(sources):
         if isinstance(source, OSError):
             reason: Optional[str] = source.strerror or str(source)
@@ -136,7 +136,7 @@ def _placed(
     bounds: _Bounds,
     place_of: Callable[[int], Tuple[int, str]],
 ) -> Part:
-    """The union of sources. Of one that is refused, ``place_of`` gives number and place."""
+    """Returns the union of sources. ``place_of`` returns the number and the place of a rejected source."""
     refused: Refused = []
     kept = cast(Iterable[Source], sources)
     numbers: List[int] = []
@@ -167,7 +167,7 @@ def _bytes_of_file(file: File, options: Dict[str, Any]) -> bytes:
 
 
 def _read(file: File, options: Dict[str, Any], skips: bool) -> Either[bytes, OSError]:
-    """The bytes of a file, or why it can't be read, where that may be left out."""
+    """Returns the bytes of a file, or why it can't be read if it may be left out."""
     try:
         return _bytes_of_file(file, options)
     except OSError as error:
@@ -188,7 +188,7 @@ def _union_of_items(items: Iterable[Source], partition: int, bounds: _Bounds) ->
 
 
 def _union_by_key(frame: Any, key: Key, image: str, partition: int, bounds: _Bounds) -> Parts:
-    """The image of the union of each key's images in a pandas data frame."""
+    """Returns the union of each key's images in a pandas data frame."""
     columns = [key] if isinstance(key, str) else list(key)
     missing = frame[columns + [image]].isna().any(axis=1)
     keys = frame[key] if isinstance(key, str) else zip(*(frame[column] for column in columns))
@@ -220,7 +220,7 @@ def _answer(union: Any, parts: Sequence[Tuple[Any, Refused]], bounds: _Bounds) -
 
 
 def _images_of(parts: List[Part]) -> Iterator[bytes]:
-    """The images of those parts that have sketches."""
+    """Returns the images of the parts that have sketches."""
     return (image for image, _ in parts if image is not None)
 
 
@@ -274,7 +274,7 @@ def _series_of(parts: List[Parts], bounds: _Bounds, key: Key, image: str) -> Any
 
 
 def _threads() -> int:
-    """How many tasks run at once: on the cluster of the current client, or else here."""
+    """Returns how many tasks run at once, on the cluster of the current client or on this machine."""
     try:
         from distributed import default_client
 
@@ -284,14 +284,14 @@ def _threads() -> int:
 
 
 def _files_per_task(count: int) -> int:
-    """Two tasks for each thread; but reading a few files is less work than a task."""
+    """Returns how many files a task reads: two tasks for each thread, but not too few files a task."""
     return min(max(-(-count // (TASKS_PER_THREAD * _threads())), LEAST_FILES), MOST_FILES)
 
 
 def _tree(
     parts: List[Any], merge: Callable[..., Any], finish: Callable[..., Any], split_every: int
 ) -> Any:
-    """Parts merged, so many at a time, until one task can finish the rest."""
+    """Returns a tree that merges ``split_every`` parts at a time, until one task can finish the rest."""
     if split_every < 2:
         raise ValueError(f"split_every is 2 or more, not {split_every}")
     merge, finish = delayed(merge, pure=False), delayed(finish, pure=False)
@@ -301,14 +301,14 @@ def _tree(
 
 
 def _union_of_parts(parts: List[Any], bounds: _Bounds, split_every: int) -> Any:
-    """The union of parts that each are a union already."""
+    """Returns the union of parts, each of which is a union."""
     return _tree(
         parts, partial(_merged, bounds=bounds), partial(_sketch_of, bounds=bounds), split_every
     )
 
 
 def _files_of(paths: Either[str, Iterable[Path]], options: Dict[str, Any]) -> List[File]:
-    """The files of a pattern, in the order of their names, or of a list."""
+    """Returns the files of a pattern, in the order of their names, or of a list."""
     if not isinstance(paths, str):
         return list(paths)
     found = sorted(fsspec.open_files(paths, "rb", **options), key=_name_of)
@@ -327,37 +327,37 @@ def union_of_files(
     files_per_task: Optional[int] = None,
     split_every: int = SPLIT_EVERY,
 ) -> Any:
-    """Return the union of the images in files, one image a file.
+    """Return the union of the images in files, one image per file.
 
     Parameters
     ----------
     paths : str, or iterable of str or path
-        A text is one name or a pattern, as ``days/*.hll`` or ``s3://bucket/**/*.hll``, that
-        ``fsspec`` looks up here. Of several, each is the name of a file, as the workers see it; one
-        with ``://`` is a URL, which ``fsspec`` opens.
+        A ``str`` is one name or a pattern, such as ``days/*.hll`` or ``s3://bucket/**/*.hll``, that
+        ``fsspec`` looks up on this machine. An iterable has names of files as the workers see them.
+        ``fsspec`` opens names with ``://`` as URLs.
     lg_max_k, width : int, optional
         As for ``hll_sketches.union_of``.
     storage_options : dict, optional
-        What ``fsspec`` passes to the file system of patterns and URLs, as keys and endpoints.
+        What ``fsspec`` passes to the file system of patterns and URLs, for example keys.
     on_error : str
-        What becomes of files that are no image, or can't be read: ``"raise"`` raises, ``"skip"``
-        leaves them out and answers ``LeftOut``.
+        What to do about files that are not an image or can't be read: ``"raise"`` raises an error,
+        ``"skip"`` leaves them out and returns ``LeftOut``.
     files_per_task : int, optional
         How many files a task reads. By default there are two tasks for each thread of the cluster,
-        of 64 to 4,096 files.
+        and a task reads 64 to 4,096 files.
     split_every : int
         How many images a task merges.
 
     Returns
     -------
     dask.delayed.Delayed
-        Of a ``Sketch``, or of ``LeftOut``. Its ``compute`` raises ``PlacedImageError`` where a file
-        is no image: ``place`` is its path and ``number`` its number among the paths.
+        Computes to a ``Sketch``, or to ``LeftOut``. ``compute`` raises ``PlacedImageError`` if a file
+        is not an image: ``place`` is its path, and ``number`` its index among the paths.
 
     Raises
     ------
     FileNotFoundError
-        If no file fits the pattern.
+        If no file matches the pattern.
     """
     bounds = _bounds(lg_max_k, width, on_error)
     options = storage_options or {}
@@ -386,15 +386,15 @@ def union_of_bag(
     Parameters
     ----------
     bag : dask.bag.Bag
-        Of images as bytes, or of ``Sketch``.
+        Images as bytes, or ``Sketch`` objects.
     lg_max_k, width, on_error, split_every
         As for ``union_of_files``.
 
     Returns
     -------
     dask.delayed.Delayed
-        Of a ``Sketch``, or of ``LeftOut``. Its ``compute`` raises ``PlacedImageError`` where an
-        item is no image: ``place`` has the numbers of the partition and of the item in it.
+        Computes to a ``Sketch``, or to ``LeftOut``. ``compute`` raises ``PlacedImageError`` if an
+        item is not an image: ``place`` has the numbers of the partition and of the item in it.
     """
     bounds = _bounds(lg_max_k, width, on_error)
     union = delayed(partial(_union_of_items, bounds=bounds), pure=False)
@@ -414,15 +414,15 @@ def union_by_key(
 ) -> Any:
     """Return the union of the images of each key.
 
-    Rows without a key or an image are passed over. All unions have to fit in the memory of one
+    Rows without a key or an image are skipped. All unions together have to fit in the memory of one
     worker.
 
     Parameters
     ----------
     dataframe : dask.dataframe.DataFrame
-        With the columns of the key, and a column of images as bytes, of pandas or Arrow.
+        Has the columns of the key, and a column of images as bytes (pandas or Arrow).
     key : str or list of str
-        The column of the key, or several.
+        The column or columns of the key.
     image : str
         The column of the images.
     lg_max_k, width, on_error, split_every
@@ -431,9 +431,9 @@ def union_by_key(
     Returns
     -------
     dask.delayed.Delayed
-        Of a ``pandas.Series`` of images as bytes, with the keys as its index, in their order, or of
-        ``LeftOut``. Its ``compute`` raises ``PlacedImageError`` where a row has no image: ``place``
-        has the numbers of the partition and of the row in it.
+        Computes to a ``pandas.Series`` of images as bytes, with the sorted keys as its index, or to
+        ``LeftOut``. ``compute`` raises ``PlacedImageError`` if a row's bytes are not an image:
+        ``place`` has the numbers of the partition and of the row in it.
     """
     bounds = _bounds(lg_max_k, width, on_error)
     union = delayed(partial(_union_by_key, key=key, image=image, bounds=bounds), pure=False)
@@ -450,7 +450,7 @@ def union_by_key(
 
 
 def _is_planning() -> bool:
-    """Whether Dask plans an aggregation now, and tries it on made-up rows to learn its type."""
+    """Returns whether Dask is planning an aggregation, and tries it on made-up rows to learn its type."""
     frame = sys._getframe()
     while frame is not None:
         module = str(frame.f_globals.get("__name__"))
@@ -461,7 +461,7 @@ def _is_planning() -> bool:
 
 
 def _of_group(column: Any, image_of: Callable[[Any], Optional[bytes]]) -> Optional[bytes]:
-    """What a function makes of a group without what is missing; None if nothing is left."""
+    """Returns what a function makes of a group without missing values; None if nothing is left."""
     values = column.dropna()
     if not len(values):
         return None
@@ -469,12 +469,12 @@ def _of_group(column: Any, image_of: Callable[[Any], Optional[bytes]]) -> Option
         return image_of(values)
     except TypeError:
         if _is_planning():
-            return None     # of made-up rows; the real ones are refused by the task that has them
+            return None     # of made-up rows; an error in real rows is raised by the task that has them
         raise
 
 
 def _each(grouped: Any, image_of: Callable[[Any], Optional[bytes]]) -> Any:
-    """What a function makes of the column of each group."""
+    """Returns what a function makes of the column of each group."""
     return grouped.apply(partial(_of_group, image_of=image_of))
 
 
@@ -485,13 +485,13 @@ def _image_of_values(column: Any, lg_k: int, width: int) -> bytes:
 
 
 def _image_of_images(column: Any, bounds: _Bounds) -> Optional[bytes]:
-    """The union of a group, with the label of a row in what it raises."""
+    """Returns the union of a group. Errors have the label of the row."""
     labels = column.index
     return _placed(list(column), bounds, lambda number: (number, f"row {labels[number]}"))[0]
 
 
 def _union_of_images(column: Any, bounds: _Bounds) -> Optional[bytes]:
-    """The union of what was made of parts of a group."""
+    """Returns the union of the images that were made of parts of a group."""
     return _merged([(image, []) for image in column], bounds)[0]
 
 
@@ -502,7 +502,7 @@ def _at_width(image: Any, bounds: _Bounds) -> Any:
 def _aggregation(
     name: str, of_column: Callable[[Any], Optional[bytes]], bounds: _Bounds
 ) -> Any:
-    """An aggregation whose parts are images, which are merged and get their width at the end."""
+    """Returns an aggregation whose parts are images. They are merged, and get their width at the end."""
     from dask.dataframe import Aggregation
 
     return Aggregation(
@@ -525,14 +525,14 @@ def sketch_aggregation(lg_k: int = 12, width: int = 8, *, name: Optional[str] = 
     width : int
         The bits of a register, 4, 6 or 8.
     name : str, optional
-        What Dask calls the aggregation: ``hll_sketch_12_8`` with the numbers above, if it is not
-        given. Aggregations on one column need different names.
+        The name of the aggregation for Dask; by default ``hll_sketch_12_8`` with the numbers above.
+        Aggregations on one column need different names.
 
     Returns
     -------
     dask.dataframe.Aggregation
-        It gives an image, as bytes, for each group, and None for a group of missing values only.
-        Values count as for ``Sketch.update_many``; missing ones are passed over.
+        Its result is an image, as bytes, for each group, or None for a group that has only missing
+        values. Values count as for ``Sketch.update_many``; missing values are skipped.
     """
     lg_k, width = checked_lg_k(lg_k), checked_width(width)
     of_column = partial(_image_of_values, lg_k=lg_k, width=width)
@@ -553,14 +553,14 @@ def union_aggregation(
     lg_max_k, width : int, optional
         As for ``hll_sketches.union_of``.
     name : str, optional
-        What Dask calls the aggregation: ``hll_union``, with the numbers above that are given, if it
-        is not. Aggregations on one column need different names.
+        The name of the aggregation for Dask; by default ``hll_union`` with those of the numbers above
+        that are given. Aggregations on one column need different names.
 
     Returns
     -------
     dask.dataframe.Aggregation
-        It gives an image, as bytes, for each group, and None for a group without images. It raises
-        ``PlacedImageError`` where a row has no image: ``place`` has its label.
+        Its result is an image, as bytes, for each group, or None for a group without images. It
+        raises ``PlacedImageError`` if a row's bytes are not an image: ``place`` has the row's label.
     """
     bounds = _bounds(lg_max_k, width)
     given = [str(number) for number in (lg_max_k, width) if number is not None]

@@ -1,5 +1,5 @@
 # SPDX-License-Identifier: Apache-2.0
-"""Files of images: how they are read and written."""
+"""Reading and writing files of images."""
 from __future__ import annotations
 
 import errno
@@ -23,13 +23,13 @@ STANDARD = "-"
 
 PIECE = 1 << 16
 STEP = 4000
-"""The system takes a path of so many bytes at once."""
+"""The most bytes of a path that the system accepts at once."""
 
 REFUSED, UNUSABLE = 1, 2
 
 
 class Trouble(Exception):
-    """What is told of a file, and the status that a command ends with.
+    """An error of a file, and the status with which the command ends.
 
     Attributes
     ----------
@@ -38,8 +38,8 @@ class Trouble(Exception):
     words : str
         What is wrong.
     status : int
-        ``REFUSED`` where it was read and is no image, or doesn't fit; ``UNUSABLE`` where it can't
-        be read or written.
+        ``REFUSED`` if the file was read and is not an image, or can't be merged; ``UNUSABLE`` if it
+        can't be read or written.
     """
 
     def __init__(self, name: str, words: str, status: int = REFUSED) -> None:
@@ -51,14 +51,14 @@ class Trouble(Exception):
 
 
 class OutputTrouble(Trouble):
-    """Standard output can't be written, so that it makes no sense to go on."""
+    """Standard output can't be written, so the command can't go on."""
 
     def __init__(self, error: OSError) -> None:
         super().__init__("standard output", error.strerror or str(error), UNUSABLE)
 
 
 def unusable(name: str, error: OSError) -> Trouble:
-    """The trouble of a file that can't be read or written."""
+    """Returns the error of a file that can't be read or written."""
     words = error.strerror or str(error)
     if error.errno == errno.EISDIR:
         words += " (name its files, or merge them)"
@@ -66,13 +66,13 @@ def unusable(name: str, error: OSError) -> Trouble:
 
 
 def image_trouble(name: str, reason: str) -> Trouble:
-    """The trouble of a file that is no image."""
+    """Returns the error of a file that is not an image."""
     return Trouble(name, f"image {explained(reason)}")
 
 
 @contextmanager
 def _named_in_errors(name: str) -> Iterator[None]:
-    """Errors of the system name this file, and none that is made on the way."""
+    """Makes errors of the system name this file, and not a temporary file."""
     try:
         yield
     except OSError as error:
@@ -83,7 +83,7 @@ def _named_in_errors(name: str) -> Iterator[None]:
 
 
 def _steps(path: str) -> List[bytes]:
-    """The path in parts that the system takes, each within the folder of the one before."""
+    """Yields parts of a path that the system accepts, each relative to the part before."""
     steps, rest = [], os.fsencode(path)
     while len(rest) > STEP:
         cut = rest.rfind(b"/", 1, STEP)
@@ -95,7 +95,7 @@ def _steps(path: str) -> List[bytes]:
 
 
 def _opened_in_steps(path: str, flags: int) -> int:
-    """Opens a file by way of the folders above it."""
+    """Opens a file by opening the folders above it, one after another."""
     *folders, last = _steps(path)
     above: Optional[int] = None
     try:
@@ -111,7 +111,7 @@ def _opened_in_steps(path: str, flags: int) -> int:
 
 
 def opened(path: str, flags: int) -> int:
-    """Opens a file, also by a path that is longer than the system takes at once."""
+    """Opens a file, even if its path is longer than the system accepts at once."""
     flags |= os.O_CLOEXEC
     try:
         return os.open(path, flags)
@@ -125,7 +125,7 @@ def opened(path: str, flags: int) -> int:
 
 
 def _read_up_to(place: int, most: int) -> bytes:
-    """So many bytes, or fewer where the file ends."""
+    """Returns ``most`` bytes, or fewer if the file ends."""
     first = os.read(place, most)
     pieces, rest = [first], most - len(first)
     while rest and pieces[-1]:
@@ -135,7 +135,7 @@ def _read_up_to(place: int, most: int) -> bytes:
 
 
 def _read_image(place: int) -> bytes:
-    """The bytes of an image, and perhaps some after it, but never many."""
+    """Returns the bytes of an image, maybe followed by a few others."""
     data = _read_up_to(place, PIECE)
     if len(data) < PIECE:
         return data
@@ -144,9 +144,9 @@ def _read_image(place: int) -> bytes:
 
 
 def read_path(path: str) -> bytes:
-    """The bytes of a file as far as an image can go, unchecked.
+    """Returns the bytes of a file that an image can have, unchecked.
 
-    A file of any size takes no more memory than the image that its first bytes promise.
+    Even for a large file, no more memory is used than the first bytes say that the image needs.
 
     Raises
     ------
@@ -162,7 +162,7 @@ def read_path(path: str) -> bytes:
 
 
 def bytes_of_file(name: str) -> bytes:
-    """What ``read_path`` gives; ``-`` is standard input.
+    """Returns what ``read_path`` returns; ``-`` is standard input.
 
     Raises
     ------
@@ -178,9 +178,10 @@ def bytes_of_file(name: str) -> bytes:
 
 
 def of_file(name: str, call: Callable[[bytes], T]) -> T:
-    """What a call of the library returns for the image in a file; a few bytes may follow the image.
+    """Returns what a call of the library returns for the image in a file. A few bytes may follow the
+    image.
 
-    The file's own image is read by this call alone, as an image from elsewhere can be slow to read.
+    Only this call reads the image, as an untrusted image can be slow to read.
 
     Raises
     ------
@@ -195,7 +196,7 @@ def of_file(name: str, call: Callable[[bytes], T]) -> T:
 
 
 def image_of_file(name: str) -> bytes:
-    """The image in a file, as this library writes it: calls that read it are quick.
+    """Returns the image in a file, as this library writes it, so further calls read it quickly.
 
     Raises
     ------
@@ -226,7 +227,7 @@ def _write_standard(data: bytes) -> None:
 
 
 def _status_of(path: str) -> Optional[os.stat_result]:
-    """What the system says of a file; None if it isn't there."""
+    """Returns the status of a file, or None if it doesn't exist."""
     try:
         return os.stat(path)
     except FileNotFoundError:
@@ -234,7 +235,7 @@ def _status_of(path: str) -> Optional[os.stat_result]:
 
 
 def _keep_owner_and_mode(place: int, before: os.stat_result) -> None:
-    """Gives a new file the owner, the group where that is allowed, and the mode of an old one."""
+    """Gives a new file the owner, the group (if that is allowed) and the mode of the old file."""
     made = os.fstat(place)
     if made.st_uid != before.st_uid:
         os.fchown(place, before.st_uid, before.st_gid)
@@ -245,7 +246,7 @@ def _keep_owner_and_mode(place: int, before: os.stat_result) -> None:
 
 
 def _fill(place: int, data: bytes, before: Optional[os.stat_result]) -> None:
-    """Writes a file, down to the disk."""
+    """Writes a file and syncs it to disk."""
     if before is not None:
         _keep_owner_and_mode(place, before)
     _write_all(place, data)
@@ -254,8 +255,8 @@ def _fill(place: int, data: bytes, before: Optional[os.stat_result]) -> None:
 
 @contextmanager
 def _temporary(path: str) -> Iterator[str]:
-    """A name in the same folder, which walks pass over. While a file has it, signals wait; at the
-    end none has it."""
+    """Yields a temporary name in the same folder, which walks skip. Signals are delayed while a file has
+    this name, and at the end no file has it."""
     name = f".hll-{os.getpid()}-{os.urandom(8).hex()}"
     temporary = os.path.join(os.path.dirname(path), name)
     with held_back(*ENDING):
@@ -267,7 +268,7 @@ def _temporary(path: str) -> Iterator[str]:
 
 
 def _named(place: int, name: str) -> bool:
-    """Gives a file that has none a name, by the link that the system keeps for its descriptor."""
+    """Gives a name to a file that has none, by the link that the system has for its descriptor."""
     try:
         # any src_dir_fd makes os.link follow that link
         os.link(f"/proc/self/fd/{place}", name, src_dir_fd=place, follow_symlinks=True)
@@ -277,8 +278,8 @@ def _named(place: int, name: str) -> bool:
 
 
 def _replace_by_link(path: str, data: bytes, before: Optional[os.stat_result]) -> bool:
-    """Writes a file that has no name until it is whole, so that nothing is left of one that is not.
-    False where the system can't do this."""
+    """Writes a file that has no name until it is complete, so no incomplete file is left. Returns False
+    if the system can't do this."""
     try:
         place = os.open(os.path.dirname(path), os.O_WRONLY | os.O_TMPFILE | os.O_CLOEXEC, 0o666)
     except (OSError, AttributeError):
@@ -295,7 +296,7 @@ def _replace_by_link(path: str, data: bytes, before: Optional[os.stat_result]) -
 
 
 def _replace_by_name(path: str, data: bytes, before: Optional[os.stat_result]) -> None:
-    """Writes a file under another name first. Signals wait until it is written."""
+    """Writes a file under another name first. Signals are delayed until it is written."""
     with _temporary(path) as temporary:
         place = os.open(temporary, os.O_WRONLY | os.O_CREAT | os.O_EXCL | os.O_CLOEXEC, 0o666)
         try:
@@ -306,7 +307,7 @@ def _replace_by_name(path: str, data: bytes, before: Optional[os.stat_result]) -
 
 
 def _sync_folder(folder: str) -> None:
-    """Puts the names in a folder onto the disk, where it can be read and its system does that."""
+    """Syncs the names in a folder to disk, if the folder can be read and its file system supports that."""
     try:
         place = os.open(folder, os.O_RDONLY | os.O_DIRECTORY | os.O_CLOEXEC)
     except PermissionError:
@@ -321,14 +322,14 @@ def _sync_folder(folder: str) -> None:
 
 
 def _replace(path: str, data: bytes, before: Optional[os.stat_result]) -> None:
-    """Gives a path a new file, once that is whole and on the disk."""
+    """Replaces the file at a path, once the new file is complete and on disk."""
     if not _replace_by_link(path, data, before):
         _replace_by_name(path, data, before)
     _sync_folder(os.path.dirname(path))
 
 
 def _write_into(path: str, data: bytes) -> None:
-    """Writes into what is no plain file: a pipe or a device."""
+    """Writes into a pipe or a device."""
     place = os.open(path, os.O_WRONLY)
     try:
         _write_all(place, data)
@@ -337,7 +338,7 @@ def _write_into(path: str, data: bytes) -> None:
 
 
 def write_path(name: str, data: bytes) -> None:
-    """Writes a file as a whole, or leaves it as it was. It keeps its owner and its mode.
+    """Writes a whole file, or leaves it unchanged. The file keeps its owner and its mode.
 
     Raises
     ------
@@ -354,8 +355,8 @@ def write_path(name: str, data: bytes) -> None:
 
 
 @contextmanager
-def _told_of(name: str) -> Iterator[None]:
-    """Errors of the system become the trouble of a file."""
+def _reported_of(name: str) -> Iterator[None]:
+    """Turns errors of the system into the error of a file."""
     try:
         yield
     except OSError as error:
@@ -365,7 +366,7 @@ def _told_of(name: str) -> Iterator[None]:
 
 
 def write_file(name: str, data: bytes) -> None:
-    """What ``write_path`` does; ``-`` is standard output.
+    """Does what ``write_path`` does; ``-`` is standard output.
 
     Raises
     ------
@@ -375,12 +376,12 @@ def write_file(name: str, data: bytes) -> None:
     if name == STANDARD:
         _write_standard(data)
         return
-    with _told_of(name):
+    with _reported_of(name):
         write_path(name, data)
 
 
 def _check_kept(name: str, before: os.stat_result) -> None:
-    """Refuses to replace a file that is read-only or another user's."""
+    """Raises an error for a file that is read-only or belongs to another user."""
     is_writable = os.access(name, os.W_OK) and before.st_mode & 0o222
     if not is_writable or before.st_uid != os.geteuid():
         whose = "it belongs to another user" if is_writable else "it is read-only"
@@ -388,17 +389,17 @@ def _check_kept(name: str, before: os.stat_result) -> None:
 
 
 def check_output(name: str, force: bool = False) -> None:
-    """Finds out before the work whether a file may be written, as far as that can be told. By force
-    a file is replaced that is read-only or another user's.
+    """Checks before the work whether a file may be written, as far as that can be known. With ``force`` a
+    file may be replaced that is read-only or belongs to another user.
 
     Raises
     ------
     Trouble
-        If it can't.
+        If it can't be written.
     """
     if name == STANDARD:
         return
-    with _told_of(name):
+    with _reported_of(name):
         path = os.path.realpath(name)
         before = _status_of(path)
         if before is not None and stat.S_ISDIR(before.st_mode):
@@ -417,7 +418,7 @@ def check_output(name: str, force: bool = False) -> None:
 
 
 def _is_named(place: int, path: str) -> bool:
-    """Whether an open file still has a name: it has another one once it was replaced."""
+    """Returns whether an open file still is the file at a path, and was not replaced."""
     try:
         return os.path.samestat(os.fstat(place), os.stat(path))
     except FileNotFoundError:
@@ -426,15 +427,15 @@ def _is_named(place: int, path: str) -> bool:
 
 @contextmanager
 def locked(name: str) -> Iterator[None]:
-    """Holds the lock of a file, for which all who want it wait. It is the lock of the file that has
-    the name then, not of one that was replaced meanwhile.
+    """Holds the lock of a file, and waits for it first. The lock is that of the file that has the name
+    then, and not of a file that was replaced while it waited.
 
     Raises
     ------
     Trouble
-        If the file can't be opened, or its system has no locks.
+        If the file can't be opened, or its file system has no locks.
     """
-    with _told_of(name):
+    with _reported_of(name):
         place = opened(name, os.O_RDONLY)
         fcntl.flock(place, fcntl.LOCK_EX)
         while not _is_named(place, name):

@@ -1,5 +1,5 @@
 # SPDX-License-Identifier: Apache-2.0
-"""Which files are meant: those that are named, those below folders, and those that lists name."""
+"""Finds files: by name, in folders, and by lists of names."""
 from __future__ import annotations
 
 import errno
@@ -10,7 +10,7 @@ from typing import Callable, Iterable, Iterator, List, Tuple
 from .files import PIECE, STANDARD, UNUSABLE, Trouble, opened, unusable
 
 LONGEST_NAME = 1 << 20
-"""A name in a list has at most so many bytes."""
+"""The most bytes of a name in a list."""
 
 _FILE, _FOLDER = "file", "folder"
 _KINDS = {
@@ -28,14 +28,14 @@ Tell = Callable[[Trouble], None]
 
 
 def _kind_behind(entry: os.DirEntry[str]) -> str:
-    """What a name is that is neither a plain file nor a folder; a file, if a link leads to one."""
+    """Returns what an entry is that is neither a plain file nor a folder. A link to a file is a file."""
     is_link = entry.is_symlink()
     try:
         mode = entry.stat().st_mode
     except OSError as error:
         if is_link and error.errno in (errno.ENOENT, errno.ENOTDIR, errno.ELOOP):
             return "a link that leads nowhere"
-        return _FILE  # to read it tells why not
+        return _FILE  # reading it reports why not
     if stat.S_ISREG(mode):
         return _FILE
     what = _KINDS.get(stat.S_IFMT(mode), "no file")
@@ -43,14 +43,14 @@ def _kind_behind(entry: os.DirEntry[str]) -> str:
 
 
 def _kind_of(entry: os.DirEntry[str]) -> str:
-    """``_FILE``, ``_FOLDER``, or the words for what is passed over."""
+    """Returns ``_FILE``, ``_FOLDER``, or the words for what is skipped."""
     if entry.is_file(follow_symlinks=False):
         return _FILE
     return _FOLDER if entry.is_dir(follow_symlinks=False) else _kind_behind(entry)
 
 
 def _entries(folder: str) -> List[Tuple[str, str]]:
-    """The names in a folder, in order, and what they are; not those that begin with a dot."""
+    """Returns the names in a folder, in order, and what they are. Skips names that begin with a dot."""
     place = opened(folder, os.O_RDONLY | os.O_DIRECTORY)
     try:
         with os.scandir(place) as entries:
@@ -61,7 +61,7 @@ def _entries(folder: str) -> List[Tuple[str, str]]:
 
 
 def _walk(folder: str, refuse: Tell, pass_over: Tell) -> Iterator[str]:
-    """The files below a folder, however deep, in the order of their names."""
+    """Yields the files in a folder and its subfolders, in the order of their names."""
     rest, is_silent = [(folder, _FOLDER)], True
     while rest:
         path, kind = rest.pop()
@@ -83,14 +83,14 @@ def _walk(folder: str, refuse: Tell, pass_over: Tell) -> Iterator[str]:
 
 
 def found(names: Iterable[str], refuse: Tell, pass_over: Tell) -> Iterator[str]:
-    """The files that are named, and in place of a folder those below it.
+    """Yields the files that are named, and the files in the folders that are named.
 
     Parameters
     ----------
     names : iterable of str
         Files and folders; ``-`` is standard input.
     refuse : callable
-        Called with the trouble of each folder that can't be read, or has no file.
+        Called with the error of each folder that can't be read or has no file.
     pass_over : callable
         Called for each link to a folder, link that leads nowhere, FIFO, socket or device in a
         folder.
@@ -106,7 +106,7 @@ def found(names: Iterable[str], refuse: Tell, pass_over: Tell) -> Iterator[str]:
 
 
 def _pieces(name: str) -> Iterator[bytes]:
-    """The bytes of a file as they come; ``-`` is standard input."""
+    """Yields the bytes of a file in pieces; ``-`` is standard input."""
     try:
         source = os.dup(0) if name == STANDARD else opened(name, os.O_RDONLY)
         with open(source, "rb", buffering=0) as stream:
@@ -116,12 +116,12 @@ def _pieces(name: str) -> Iterator[bytes]:
 
 
 def names_in(name: str, ends_with_nul: bool) -> Iterator[str]:
-    """The names that a file has, each on a line or ended by NUL; ``-`` is standard input.
+    """Yields the names in a file, each on a line or ended by NUL; ``-`` is standard input.
 
     Raises
     ------
     Trouble
-        If the file can't be read, or a name in it is longer than any can be.
+        If the file can't be read, or a name in it is too long.
     """
     end = b"\0" if ends_with_nul else b"\n"
     rest = b""

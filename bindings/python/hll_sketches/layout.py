@@ -1,5 +1,5 @@
 # SPDX-License-Identifier: Apache-2.0
-"""Where things are in the bytes of an image (docs/FORMAT.md, "The image")."""
+"""The layout of an image (docs/FORMAT.md, "The image")."""
 from __future__ import annotations
 
 import struct
@@ -9,27 +9,27 @@ from . import _library
 
 STAGES = ("list", "set", "registers")
 HEADER = 40
-"""The bytes of a header with estimator fields and counts; that of a list or a set is shorter."""
+"""The size of a header with estimator fields and counts; the header of a list or a set is shorter."""
 
 _FLAGS = ((4, "empty"), (8, "compact"), (16, "out of order"))
 _MOST_COUPONS = 1 << 18
 
 
 def _list_size(image: bytes) -> int:
-    """The bytes of a list: none after the header where it is empty."""
+    """Returns the size of a list."""
     if image[5] & 4:
         return 8
     return 8 + 4 * (min(image[6], 8) if image[5] & 8 else 8)
 
 
 def _set_size(image: bytes) -> int:
-    """The bytes of a set, by its count or by its table."""
+    """Returns the size of a set, from its count or from its table."""
     count = min(int.from_bytes(image[8:12], "little"), _MOST_COUPONS)
     return 12 + 4 * (count if image[5] & 8 else 1 << min(image[4], 18))
 
 
 def _registers_size(image: bytes) -> int:
-    """The bytes of registers, with the exceptions of those of four bits."""
+    """Returns the size of registers, with the exceptions of 4-bit registers."""
     number = 1 << image[3]
     width = _library.width_in(image)
     if width != 4:
@@ -40,10 +40,10 @@ def _registers_size(image: bytes) -> int:
 
 
 def size_of(image: bytes) -> int:
-    """How many bytes the image takes, as its first ``HEADER`` bytes say.
+    """Returns the size of the image, as its first ``HEADER`` bytes say.
 
-    Where they are refused, so many bytes are refused for the same reason. The bytes after them are
-    not looked at by any call.
+    If these bytes are rejected, an image of this size is rejected for the same reason. No call looks
+    at bytes after it.
     """
     if len(image) < 8 or not _library.LEAST_LG_K <= image[3] <= _library.MOST_LG_K:
         return HEADER
@@ -54,7 +54,7 @@ def size_of(image: bytes) -> int:
 
 
 def holds_values(image: bytes) -> bool:
-    """Whether a legal image has a coupon, or a register above 0."""
+    """Returns whether a legal image has a coupon or a register above 0."""
     stage = image[7] & 3
     if stage < 2:
         return any(image[8:12]) if stage else image[6] > 0 and not image[5] & 4
@@ -65,15 +65,15 @@ def holds_values(image: bytes) -> bool:
 
 
 def flags_of(image: bytes) -> List[str]:
-    """The names of the flags that are set."""
+    """Returns the names of the flags that are set."""
     return [name for bit, name in _FLAGS if image[5] & bit]
 
 
 def estimator_fields_of(image: bytes) -> str:
-    """What the estimator fields of an image are.
+    """Returns what the estimator fields of an image are.
 
-    ``"none"`` for a list or a set, ``"zero"``, ``"set"`` where they are the sums of 2^-v over the
-    values v of the registers, and ``"other"`` where another program put its own there.
+    ``"none"`` for a list or a set, ``"zero"``, ``"set"`` if they are the sums of 2^-v over the values
+    v of the registers, and ``"other"`` for the fields of another program.
     """
     if image[7] & 3 != 2:
         return "none"
@@ -84,7 +84,7 @@ def estimator_fields_of(image: bytes) -> str:
 
 
 def registers_of(image: bytes, lg_k: int) -> bytes:
-    """The value of each register at an ``lg_k``, which is the image's or smaller, a byte each."""
+    """Returns the registers at the ``lg_k`` of the image or a smaller one, a byte each."""
     made = _library.convert(_library.fold(image, lg_k), 8)
     stage = made[7] & 3
     if stage == 2:
@@ -92,6 +92,6 @@ def registers_of(image: bytes, lg_k: int) -> bytes:
     coupons = made[12:] if stage == 1 else made[8:]
     registers = bytearray(1 << lg_k)
     for word in struct.unpack(f"<{len(coupons) // 4}I", coupons):
-        # they ascend by value, so the last one of a slot has the greatest
+        # coupons ascend by value, so the last coupon of a slot has the greatest value
         registers[word & (1 << lg_k) - 1] = word >> 26
     return bytes(registers)

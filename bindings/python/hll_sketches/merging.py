@@ -1,9 +1,9 @@
 # SPDX-License-Identifier: Apache-2.0
-"""Merges of many files, as a tree over processes.
+"""Merges many files, as a tree of processes.
 
-Files go to processes in groups. A process reads the files of its group in batches of bounded bytes,
-and gives the image of their union; these images are merged as they come. The union is the same
-however files are grouped, so neither the number of processes nor their order makes a difference.
+Files go to processes in groups. A process reads the files of its group in batches of bounded size,
+and returns the image of their union. These images are merged in the order of their groups. The union
+is the same however files are grouped, so the number of processes makes no difference.
 """
 from __future__ import annotations
 
@@ -32,15 +32,15 @@ if TYPE_CHECKING:
     from concurrent.futures import Future, ProcessPoolExecutor
 
 GROUP = 512
-"""How many files a task has."""
+"""How many files a task reads."""
 
 
 Path = Either[str, bytes, "os.PathLike[str]", "os.PathLike[bytes]"]
 
 
 class Part(NamedTuple):
-    """What a task gives: the image of its union, how many files that has, the first one of them
-    that isn't empty, and the files that are refused."""
+    """The result of a task: the image of its union, how many files were merged, the first of them that
+    isn't empty, and the files that were rejected."""
 
     image: bytes
     merged: int
@@ -49,7 +49,7 @@ class Part(NamedTuple):
 
 
 class Merged(NamedTuple):
-    """The image of a union, and how many files it has."""
+    """The image of a union, and how many files were merged."""
 
     image: bytes
     merged: int
@@ -60,7 +60,7 @@ Parts = Iterator[Part]
 
 
 def processors() -> int:
-    """How many processors this process may use."""
+    """Returns how many processors this process may use."""
     if hasattr(os, "sched_getaffinity"):
         return len(os.sched_getaffinity(0))
     return os.cpu_count() or 1
@@ -77,11 +77,11 @@ class OtherLgK(Trouble):
         has = f"it has lg_k {error.lg_k}, and {shown(before or 'what was merged')} has"
         cure = f"--lg-k {min(error.lg_k, error.other_lg_k)} merges both"
         super().__init__(name, f"{has} {error.other_lg_k}: {cure}")
-        self.args = name, error, before     # for the process that it is raised in again
+        self.args = name, error, before     # for the process that raises it again
 
 
 class _Files:
-    """The union of files, a batch of bounded bytes at a time."""
+    """The union of files, a batch of bounded size at a time."""
 
     def __init__(self, lg_max_k: int) -> None:
         self.state = State(lg_max_k)
@@ -92,7 +92,7 @@ class _Files:
         self._bytes = 0
 
     def take(self, name: str) -> None:
-        """Reads a file."""
+        """Reads a file into the batch."""
         try:
             image = bytes_of_file(name)
         except Trouble as trouble:
@@ -105,7 +105,7 @@ class _Files:
             self.merge()
 
     def merge(self) -> None:
-        """Merges the files of the batch; those that are no images are left out."""
+        """Merges the files of the batch, and leaves out those that are not images."""
         names, images = self._names, self._images
         self._names, self._images, self._bytes = [], [], 0
         done = 0
@@ -113,7 +113,7 @@ class _Files:
             done += self._merge_some(names[done:], images[done:])
 
     def _merge_some(self, names: Group, images: List[bytes]) -> int:
-        """Merges files up to one that is no image, and how many these are with it."""
+        """Merges files up to the first that is not an image. Returns how many files were done, with it."""
         try:
             self.state.join_all(images)
         except ImageError as error:
@@ -129,14 +129,14 @@ class _Files:
         return len(images)
 
     def _see(self, names: Group, images: List[bytes]) -> None:
-        """Keeps the name of the first file that isn't empty, of those that were merged."""
+        """Remembers the name of the first merged file that isn't empty."""
         if self.first is None:
             holding = (name for name, image in zip(names, images) if holds_values(image))
             self.first = next(holding, None)
 
 
 def union_of_group(lg_max_k: int, names: Group) -> Part:
-    """The union of the files of a group; those that are no images are left out."""
+    """Returns the union of the files of a group, without those that are not images."""
     files = _Files(lg_max_k)
     for name in names:
         files.take(name)
@@ -148,7 +148,7 @@ def union_of_group(lg_max_k: int, names: Group) -> Part:
 
 
 def _groups(names: Iterable[str]) -> Iterator[Group]:
-    """The files in groups; standard input is a group of its own."""
+    """Yields the files in groups. Standard input is a group of its own."""
     source = iter(names)
     while True:
         group = list(islice(source, GROUP))
@@ -161,8 +161,8 @@ def _groups(names: Iterable[str]) -> Iterator[Group]:
 
 
 def _end_with_parent() -> None:
-    """Ends this process once its parent is gone, however that ended; also inside a call of the
-    library, which lets other threads run."""
+    """Ends this process when its parent has ended for any reason, even during a call of the library,
+    which lets other threads run."""
     from multiprocessing import connection, parent_process
 
     def wait(place: int) -> None:
@@ -175,18 +175,19 @@ def _end_with_parent() -> None:
 
 
 def _submitted(pool: "ProcessPoolExecutor", lg_max_k: int, group: Group) -> "Future[Part]":
-    """Hands a task over. Processes that this starts see no interrupt: it is the parent's."""
+    """Submits a task. Processes that this starts ignore interrupts, which the parent handles."""
     with held_back(signal.SIGINT):
         return pool.submit(union_of_group, lg_max_k, group)
 
 
 def _over_processes(lg_max_k: int, groups: Iterable[Group], jobs: int) -> Parts:
-    """Tasks over so many processes, in the order of their groups; few are under way at a time."""
+    """Yields the results of tasks in ``jobs`` processes, in the order of their groups. Only a few tasks are
+    submitted at a time."""
     from concurrent.futures import ProcessPoolExecutor
     from concurrent.futures.process import BrokenProcessPool
     from multiprocessing import get_context
 
-    # by fork the queues have no names in the system, which a process that is ended would leave
+    # with fork the queues have no names in the system, which a killed process would not remove
     context = get_context("fork" if sys.platform == "linux" else None)
     pool = ProcessPoolExecutor(jobs, mp_context=context, initializer=_end_with_parent)
     waiting: Deque[Future[Part]] = deque()
@@ -209,7 +210,7 @@ def _over_processes(lg_max_k: int, groups: Iterable[Group], jobs: int) -> Parts:
 
 
 def _parts(lg_max_k: int, names: Iterable[str], jobs: int) -> Parts:
-    """What the tasks give; processes are started only where there is more than one task."""
+    """Yields the results of the tasks. Starts processes only if there is more than one task."""
     groups = _groups(names)
     first = list(islice(groups, 2))
     if jobs == 1 or len(first) < 2:
@@ -234,7 +235,7 @@ def union_of_files(
     refuse: Callable[[Trouble], None],
     more: Optional[Callable[[int], None]] = None,
 ) -> Merged:
-    """The union of files.
+    """Returns the union of files.
 
     Parameters
     ----------
@@ -243,14 +244,14 @@ def union_of_files(
     lg_max_k : int
         The largest ``lg_k`` of the union, or 0 for no bound.
     width : int, optional
-        The bits of a register of the union. If it is not given, it is that of the files, or 8 where
-        they differ.
+        The bits of a register of the union. By default it is the width of the files, or 8 if they
+        differ.
     jobs : int
-        How many processes work.
+        How many processes to use.
     refuse : callable
-        Called with what is wrong with each file that is left out.
+        Called with the error of each file that is left out.
     more : callable, optional
-        Called with the number of files of each task that is done.
+        Called with the number of files of each finished task.
 
     Raises
     ------
@@ -276,7 +277,7 @@ def union_of_files(
 
 
 def _names_of(paths: Iterable[Path]) -> Iterator[str]:
-    """The names of paths. ``-`` is a file like any other here."""
+    """Returns the names of paths. Here ``-`` is a file like any other."""
     for path in paths:
         name = os.fsdecode(path)
         yield os.path.join(os.curdir, name) if name == STANDARD else name
@@ -301,24 +302,25 @@ def merge_files(
     Parameters
     ----------
     paths : iterable of str, bytes or path
-        Files, and folders: of these all files below, but names that begin with a dot. What is
-        neither file nor folder there, or a link to a folder, is passed over with a warning.
+        Files, and folders, of which all files are merged except names that begin with a dot. A
+        warning names what is skipped in a folder: links to folders, pipes, sockets and devices.
     lg_max_k, width : int, optional
         As for ``union_of``.
     jobs : int
-        How many processes work.
+        How many processes to use.
     on_refused : callable, optional
-        Called with the path of each file that is refused, and why; the union is that of the others.
+        Called with the path of each rejected file, and why it was rejected. The union is that of the
+        other files.
 
     Raises
     ------
     FilesError
-        If files are refused and ``on_refused`` is not given; it has the paths of all.
+        If files are rejected and ``on_refused`` is not given. It has the paths of all of them.
     PrecisionError
         If a file has another ``lg_k`` than those before it, and ``lg_max_k`` is not given;
         ``place`` is its path.
     ArgumentError
-        If ``lg_max_k`` or ``width`` is out of its range.
+        If ``lg_max_k`` or ``width`` is out of range.
     """
     if isinstance(paths, (str, bytes, os.PathLike)):
         raise TypeError(f"expected many paths, not one {type(paths).__name__}: pass a list of it")

@@ -1,8 +1,8 @@
 # SPDX-License-Identifier: Apache-2.0
-"""A picture of the registers of a sketch beside the theory for its estimate, as SVG.
+"""An SVG picture of the registers of a sketch, compared with the theory for its estimate.
 
-Of n values, each goes to one of m registers, and has a number above v with the chance of 2^-v. So a
-register is v or less with the chance of (1 - 2^-v / m)^n.
+Each of n values goes to one of m registers, and has a rank above v with probability 2^-v. So a
+register is v or less with probability (1 - 2^-v / m)^n.
 """
 from __future__ import annotations
 
@@ -16,7 +16,7 @@ from .layout import STAGES
 WIDTH, HEIGHT = 720, 400
 LEFT, RIGHT, TOP, BOTTOM = 70, 20, 70, 60
 TITLE = 32
-"""A title has at most so many letters."""
+"""The most characters of a title."""
 
 STYLE = (
     "<style>text{font:13px sans-serif;fill:#222}.title{font-size:16px;font-weight:bold}"
@@ -27,21 +27,21 @@ GROUND = (
     "<style>.ground{fill:white}@media(prefers-color-scheme:dark){.ground{fill:#0d1117}"
     "text{fill:#ddd}.grid{stroke:#444}}</style>"
 )
-"""The ground, and the colors in a dark page."""
+"""The background, and the colors on a dark page."""
 
 
 # ---- theory
 
 
 def _at_most(value: int, registers: int, values: float) -> float:
-    """The chance that a register is at most a value, of so many values."""
+    """Returns the probability that a register is at most ``value``, after ``values`` distinct values."""
     if value >= 63:
         return 1.0
     return math.exp(values * math.log1p(-(0.5**value) / registers))
 
 
 def expected(values: float, lg_k: int) -> List[float]:
-    """How many registers are expected to have each number from 0 to 63.
+    """Returns how many registers are expected to have each value from 0 to 63.
 
     Parameters
     ----------
@@ -57,7 +57,7 @@ def expected(values: float, lg_k: int) -> List[float]:
 
 
 def deviation(count: float, registers: int) -> float:
-    """The standard deviation of how many registers have a number, about."""
+    """Returns about the standard deviation of the number of registers that have a value."""
     return math.sqrt(max(count * (1 - count / registers), 0.0))
 
 
@@ -65,7 +65,8 @@ def deviation(count: float, registers: int) -> float:
 
 
 def document(width: int, height: int, style: str, title: str, parts: List[str]) -> str:
-    """A picture on a white ground, or on a dark one in a dark page. Screen readers read its title."""
+    """Returns a picture with a white background, or a dark one on a dark page. Screen readers read its
+    title."""
     size = f'width="{width}" height="{height}" viewBox="0 0 {width} {height}"'
     head = f'<svg xmlns="http://www.w3.org/2000/svg" {size} role="img" aria-labelledby="title">'
     named = f'<title id="title">{_printable(title)}</title>{style}{GROUND}'
@@ -74,18 +75,18 @@ def document(width: int, height: int, style: str, title: str, parts: List[str]) 
 
 
 def _printable(text: str) -> str:
-    """A text as it can stand in a picture."""
+    """Returns a text that can be part of a picture."""
     return escape("".join(letter if letter.isprintable() else "?" for letter in text))
 
 
 def words(x: float, y: float, text: str, kind: str = "") -> str:
-    """A text at a place."""
+    """Returns a text at a position."""
     named = f' class="{kind}"' if kind else ""
     return f'<text x="{x:.1f}" y="{y:.1f}"{named}>{_printable(text)}</text>'
 
 
 def step_of(most: float) -> int:
-    """A round distance of the lines of a grid, of which about five are below a number."""
+    """Returns a round distance for the lines of a grid, about five of which are below ``most``."""
     power: int = 10 ** max(int(math.log10(max(most, 1))), 0)
     for step in (power // 5, power // 2, power, 2 * power):
         if step and most / step <= 6:
@@ -94,7 +95,7 @@ def step_of(most: float) -> int:
 
 
 class _Chart:
-    """Bars of a histogram from one value of registers to another, beside the theory."""
+    """A histogram of registers as bars, and the theory as dots."""
 
     def __init__(self, counts: List[int], theory: List[float], lg_k: int) -> None:
         self.counts, self.theory, self.registers = counts, theory, 1 << lg_k
@@ -106,16 +107,16 @@ class _Chart:
         self.step = (WIDTH - LEFT - RIGHT) / (self.last - self.first + 1)
 
     def x(self, value: float) -> float:
-        """Where the middle of a value is."""
+        """Returns the position of the middle of a value's bar."""
         return LEFT + (value - self.first + 0.5) * self.step
 
     def y(self, count: float) -> float:
-        """Where a count is."""
+        """Returns the position of a count."""
         part = min(max(count, 0.0) / self.most, 1.0)
         return HEIGHT - BOTTOM - part * (HEIGHT - TOP - BOTTOM)
 
     def grid(self) -> Iterator[str]:
-        """The lines of counts, and the values below."""
+        """Returns the lines of the grid with their counts, and the values below."""
         step = step_of(self.most)
         for count in range(0, int(self.most) + 1, step):
             y = self.y(count)
@@ -128,7 +129,7 @@ class _Chart:
         yield words((LEFT + WIDTH - RIGHT) / 2, HEIGHT - 16, "value of a register", "middle")
 
     def bars(self) -> Iterator[str]:
-        """A bar for each value."""
+        """Returns a bar for each value."""
         wide = 0.8 * self.step
         for value in range(self.first, self.last + 1):
             if self.counts[value]:
@@ -137,7 +138,7 @@ class _Chart:
                 yield f'<rect x="{x:.1f}" y="{y:.1f}" {size} class="bar"/>'
 
     def dots(self) -> Iterator[str]:
-        """A dot for each value, and a line of two deviations up and down."""
+        """Returns a dot for each value, with a line of two deviations up and down."""
         for value in range(self.first, self.last + 1):
             count = self.theory[value]
             x, spread = self.x(value), 2 * deviation(count, self.registers)
@@ -147,7 +148,7 @@ class _Chart:
 
 
 def _legend() -> Iterator[str]:
-    """What bars and dots are."""
+    """Returns a legend for bars and dots."""
     yield f'<rect x="{LEFT}" y="44" width="14" height="12" class="bar"/>'
     yield words(LEFT + 20, 54, "registers of this sketch")
     x = LEFT + 220
@@ -156,14 +157,14 @@ def _legend() -> Iterator[str]:
 
 
 def histogram_svg(image: bytes, title: str) -> str:
-    """The histogram of the registers of an image beside the theory, as SVG.
+    """Returns the histogram of the registers of an image, compared with the theory, as SVG.
 
     Parameters
     ----------
     image : bytes
         A legal image. The coupons of a list or a set are shown as registers.
     title : str
-        What stands above, before the numbers.
+        The title, which is followed by the numbers.
     """
     lg_k, estimate = image[3], _library.estimation(image).estimate
     chart = _Chart(_library.histogram(image), expected(estimate, lg_k), lg_k)

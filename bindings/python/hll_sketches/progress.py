@@ -1,5 +1,5 @@
 # SPDX-License-Identifier: Apache-2.0
-"""A bar on standard error, where that is a terminal, ``tqdm`` is installed and work takes long."""
+"""A progress bar on standard error, if that is a terminal and ``tqdm`` is installed."""
 from __future__ import annotations
 
 import sys
@@ -7,14 +7,14 @@ from typing import Optional
 
 
 class Bar:
-    """Shows how much is done, once a second has passed.
+    """Shows how much is done, after the first second.
 
     Parameters
     ----------
     unit : str
         What is counted.
     total : int, optional
-        How many there are, if that is known.
+        The total number, if it is known.
     """
 
     def __init__(self, unit: str, total: Optional[int] = None) -> None:
@@ -31,7 +31,7 @@ class Bar:
         )
 
     def more(self, count: int) -> None:
-        """So many more are done."""
+        """Reports that ``count`` more are done."""
         if self._bar is not None:
             self._bar.update(count)
 

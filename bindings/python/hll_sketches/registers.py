@@ -1,5 +1,5 @@
 # SPDX-License-Identifier: Apache-2.0
-"""Registers that a program keeps as bytes of its own."""
+"""Registers in a program's own bytes."""
 from __future__ import annotations
 
 from typing import Any, Iterable, List, Tuple, Type, TypeVar, Union
@@ -17,10 +17,10 @@ _R = TypeVar("_R", bound="Registers")
 class Registers:
     """The registers of a sketch, a byte for each: ``2**lg_k`` bytes, all 0 at first.
 
-    They count like a ``Sketch``, in constant memory: values, coupons, sketches and images are
-    merged into them in place. The same values give the same bytes: in any order, any number of
-    times, in any grouping. Any number of threads may use an object at once; where two objects
-    lie over the same memory, one at a time may be changed.
+    They count like a ``Sketch``, in constant memory. Values, coupons, sketches and images are merged
+    into them in place. The same values give the same bytes, in any order, any number of times, in any
+    grouping. Any number of threads may use an object at once. If two objects use the same memory,
+    only one of them may be changed at a time.
 
     Parameters
     ----------
@@ -30,7 +30,7 @@ class Registers:
     Raises
     ------
     ArgumentError
-        If ``lg_k`` is out of its range.
+        If ``lg_k`` is out of range.
     """
 
     __slots__ = ("_memory", "_place", "_lock", "__weakref__")
@@ -46,20 +46,20 @@ class Registers:
 
     @classmethod
     def over(cls: Type[_R], memory: Any) -> _R:
-        """Return registers over memory of the caller, as they are there.
+        """Return an object for the registers in the caller's memory.
 
         Parameters
         ----------
         memory : bytearray, mmap, array, shared memory or the like
-            Writable bytes, 16 to ``2**21`` of them and a power of two, each 0 to 63. They are
-            changed in place; their size can't be, as long as the object is there.
+            Writable bytes, each 0 to 63. Their number is a power of two, 16 to ``2**21``. They are
+            changed in place. They can't be resized while the object exists.
 
         Raises
         ------
         TypeError
-            If they can't be written, or aren't bytes that follow one another.
+            If they are read-only, or are not contiguous bytes.
         ArgumentError
-            If their number is another.
+            If their number is not such a power of two.
         """
         view = memoryview(memory)
         if view.readonly:
@@ -94,18 +94,18 @@ class Registers:
             _library.add_to(self._place, *batch)
 
     def add_coupons(self, raw_coupons: Iterable[int]) -> None:
-        """Add coupons: what ``coupons`` gives of values.
+        """Add coupons, as ``coupons`` returns them.
 
         Parameters
         ----------
         raw_coupons : iterable of int
             ``value * 2**26 + slot``, with a value of 1 to 63 and a slot below ``2**26``. An
-            ``array`` of 32 bits is taken as it is.
+            ``array`` of 32-bit numbers is used without a copy.
 
         Raises
         ------
         ArgumentError
-            If one is no coupon. Then none was added.
+            If one is not a coupon. Then none was added.
         """
         taken = raw_coupons_in(raw_coupons)
         if taken:
@@ -113,18 +113,18 @@ class Registers:
                 _library.add_coupons_to(self._place, taken)
 
     def merge(self, other: Union[Sketch, "Registers", bytes, bytearray, memoryview]) -> None:
-        """Merge a sketch, its image, or other registers, which are folded to these.
+        """Merge a sketch, its image, or other registers, folded to this ``lg_k``.
 
         Raises
         ------
         ImageError
-            If bytes are no image.
+            If bytes are not an image.
         PrecisionError
-            If the other one has fewer registers, and not all are 0: ``lg_k`` tells how many.
-            ``fold`` these to that first, if the union may be as coarse.
+            If the other sketch has fewer registers, and they are not all 0. The error has its
+            ``lg_k``. To merge anyway, ``fold`` these registers to that ``lg_k`` first.
         """
         if isinstance(other, Registers):
-            copied = memoryview(other._bytes())     # both may lie over the same memory
+            copied = memoryview(other._bytes())     # both may use the same memory
             with self._lock:
                 fewer = _library.merge_registers(self._place, _library.place_of(copied))
         else:
@@ -142,12 +142,12 @@ class Registers:
     # ---- others of the same values
 
     def fold(self: _R, lg_k: int) -> _R:
-        """Return registers of the same values at a smaller ``lg_k``, or the same.
+        """Return registers of the same values at a smaller ``lg_k``, or at the same.
 
         Raises
         ------
         ArgumentError
-            If ``lg_k`` is below 4, or above that of these, or a byte is above 63.
+            If ``lg_k`` is below 4 or above the present one, or a byte is above 63.
         """
         lg_k = checked_lg_k(lg_k)
         if lg_k > self.lg_k:
@@ -157,9 +157,9 @@ class Registers:
         return self.over(copied[: 1 << lg_k])
 
     def to_bytes(self, width: int = 8) -> bytes:
-        """Return the image of a sketch in these registers.
+        """Return the image of the sketch with these registers.
 
-        It has the fields from which other DataSketches libraries estimate.
+        It has the fields that other DataSketches libraries estimate from.
 
         Parameters
         ----------
@@ -170,19 +170,19 @@ class Registers:
             return _library.image_of(self._place, checked_width(width))
 
     def to_sketch(self, width: int = 8) -> Sketch:
-        """Return the sketch in these registers."""
+        """Return the sketch with these registers."""
         return Sketch.from_bytes(self.to_bytes(width))
 
     # ---- what they are
 
     @property
     def memory(self) -> memoryview:
-        """The registers themselves: writable bytes, each 0 to 63."""
+        """The registers as writable bytes, each 0 to 63."""
         return self._memory
 
     @property
     def lg_k(self) -> int:
-        """The logarithm of the number of registers."""
+        """The base-2 logarithm of the number of registers."""
         return len(self._memory).bit_length() - 1
 
     def histogram(self) -> List[int]:
@@ -194,21 +194,21 @@ class Registers:
         return _library.estimation_of(self._place).estimate
 
     def bounds(self, deviations: int = 2) -> Tuple[float, float]:
-        """Return a lower and an upper bound of how many values, as ``Sketch.bounds`` does."""
+        """Return a lower and an upper bound of the number of values, as ``Sketch.bounds`` does."""
         number = checked_deviations(deviations) - 1
         found = _library.estimation_of(self._place)
         return found.lower[number], found.upper[number]
 
     def lower_bound(self, deviations: int = 2) -> float:
-        """Return the lower one of ``bounds``."""
+        """Return the lower bound of ``bounds``."""
         return self.bounds(deviations)[0]
 
     def upper_bound(self, deviations: int = 2) -> float:
-        """Return the upper one of ``bounds``."""
+        """Return the upper bound of ``bounds``."""
         return self.bounds(deviations)[1]
 
     def relative_standard_error(self) -> float:
-        """Return the standard deviation of the estimate, as a part of the number of values."""
+        """Return the standard deviation of the estimate, as a fraction of the number of values."""
         return _library.estimation_of(self._place).relative_standard_error
 
     @property
@@ -232,7 +232,7 @@ class Registers:
     # ---- copies
 
     def copy(self: _R) -> _R:
-        """Return registers of the same values, in memory of their own."""
+        """Return a copy, in memory of its own."""
         return self.over(self._bytes())
 
     def __copy__(self: _R) -> _R:

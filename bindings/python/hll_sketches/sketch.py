@@ -19,15 +19,15 @@ _S = TypeVar("_S", bound="Sketch")
 _STAGES = ("list", "set", "registers")
 
 Buffer = Union[bytes, bytearray, memoryview, Any]
-"""What shows its bytes: also an ``array``, an ``mmap``, or an array of NumPy."""
+"""What shares its bytes: also an ``array``, an ``mmap``, or a NumPy array."""
 
 PENDING_BYTES, VALUE_BYTES = 1 << 12, 56
-"""A sketch keeps values of so many bytes, or twice those of its image, until they are hashed; and
-so many bytes are those of a value beside its own."""
+"""A sketch buffers values of this many bytes, or twice the size of its image, before it hashes them; and
+the bytes that a buffered value needs in addition to its own."""
 
 
 def _checked_int(what: str, number: SupportsIndex) -> int:
-    """A number that is an int; ``what`` names it in the error."""
+    """Returns a number that is an int. ``what`` names it in the error."""
     try:
         return index(number)
     except TypeError:
@@ -35,7 +35,7 @@ def _checked_int(what: str, number: SupportsIndex) -> int:
 
 
 def checked_lg_k(lg_k: int) -> int:
-    """An ``lg_k`` that is in its range."""
+    """Returns an ``lg_k`` that is in range."""
     lg_k = _checked_int("an lg_k", lg_k)
     if not _library.LEAST_LG_K <= lg_k <= _library.MOST_LG_K:
         raise ArgumentError(f"an lg_k is 4 to 21, not {lg_k}")
@@ -43,14 +43,14 @@ def checked_lg_k(lg_k: int) -> int:
 
 
 def checked_deviations(deviations: int) -> int:
-    """A number of standard deviations that bounds are known at."""
+    """Returns a number of standard deviations that is 1, 2 or 3."""
     if deviations not in (1, 2, 3) or not isinstance(deviations, int):
         raise ArgumentError(f"bounds are at 1, 2 or 3 deviations, not {deviations!r}")
     return deviations
 
 
 def checked_width(width: int) -> int:
-    """A width that is one."""
+    """Returns a width that is 4, 6 or 8."""
     width = _checked_int("a width", width)
     if width not in (4, 6, 8):
         raise ArgumentError(f"a width is 4, 6 or 8 bits, not {width}")
@@ -58,7 +58,7 @@ def checked_width(width: int) -> int:
 
 
 def _view_of(source: Buffer) -> memoryview:
-    """What holds bytes, without a copy of them."""
+    """Returns a view of bytes, without a copy."""
     try:
         return memoryview(source)
     except TypeError:
@@ -68,12 +68,12 @@ def _view_of(source: Buffer) -> memoryview:
 
 
 def data_in(source: Buffer) -> bytes:
-    """The bytes of what holds bytes."""
+    """Returns the bytes of an object that shares its bytes."""
     return source if isinstance(source, bytes) else _view_of(source).tobytes()
 
 
 def image_in(source: Union["Sketch", Buffer]) -> bytes:
-    """The image of a sketch, or bytes that may be one."""
+    """Returns the image of a sketch, or bytes that may be one."""
     return source.to_bytes() if isinstance(source, Sketch) else data_in(source)
 
 
@@ -82,13 +82,13 @@ def fault_of(data: Buffer) -> Optional[str]:
 
     Parameters
     ----------
-    data : bytes, or what shows bytes
-        Bytes after the image are not looked at.
+    data : bytes, or an object that shares its bytes
+        Bytes after the image are not read.
 
     Returns
     -------
     str or None
-        The first check that they fail, as in ``ImageError.reason``; None if they begin with an
+        The first check that fails, as in ``ImageError.reason``, or None if the bytes begin with an
         image.
     """
     status = _library.check(data_in(data))
@@ -103,20 +103,20 @@ def is_image(data: Buffer) -> bool:
 def is_small(
     image: Buffer, max_lg_k: int = 12, max_bytes: int = 8192
 ) -> bool:
-    """Whether an image of a stranger's is quick to read.
+    """Return whether an untrusted image is small, and so quick to read.
 
-    An image can be made to hold its reader for a second and more. Its ``lg_k`` and its size bound that, and
-    are told without reading it; those that are the defaults mean milliseconds, and leave room for
-    the images of honest programs with an ``lg_k`` of 12.
+    A malicious image can occupy its reader for more than a second. Its ``lg_k`` and its size bound
+    this time, and are known without reading the image. With the defaults it takes milliseconds, and
+    every image that honest programs write at an ``lg_k`` of 12 passes.
 
     Parameters
     ----------
-    image : bytes, or what shows bytes
-        Whether it is an image at all is for ``is_image``.
+    image : bytes, or an object that shares its bytes
+        ``is_image`` says whether it is an image at all.
     max_lg_k : int
         The greatest ``lg_k``, 4 to 21.
     max_bytes : int
-        The most bytes.
+        The greatest size.
     """
     max_lg_k, data = checked_lg_k(max_lg_k), _view_of(image)
     return 4 <= data.nbytes <= max_bytes and data.cast("B")[3] <= max_lg_k
@@ -125,25 +125,25 @@ def is_small(
 class Sketch:
     """A HyperLogLog sketch: it counts distinct values.
 
-    A sketch begins as a list of what it keeps of each value (a coupon), becomes a set of coupons,
-    and then ``2**lg_k`` registers. While it is a list or a set its estimate is nearly exact; then
-    the relative standard error is about ``1.04 / sqrt(2**lg_k)``, which is 1.6 % for 12.
+    A sketch begins as a list of coupons, which are what it stores of each value. It becomes a set of
+    coupons, and then ``2**lg_k`` registers. The estimate of a list or a set is nearly exact. With
+    registers the relative standard error is about ``1.04 / sqrt(2**lg_k)``, which is 1.6 % for 12.
 
-    ``update``, ``update_many``, ``add_coupon``, ``merge`` and ``|=`` change a sketch; all else
-    leaves it as it is. Any number of threads may use a sketch at once, and change it.
+    Only ``update..``, ``add_coupon``, ``merge``, ``|=``, ``reset`` and ``set_estimator_fields``
+    change a sketch. Any number of threads may use and change a sketch at once.
 
     Parameters
     ----------
     lg_k : int
-        The logarithm of the number of registers, 4 to 21.
+        The base-2 logarithm of the number of registers, 4 to 21.
     width : int
-        The bits of a register, 4, 6 or 8. Registers of 8 bits are the fastest; those of 6 and 4
-        take three quarters and half of the memory, and say the same.
+        The bits of a register, 4, 6 or 8. 8-bit registers are the fastest. 6-bit and 4-bit registers
+        take three quarters and half of the memory, and have the same values.
 
     Raises
     ------
     ArgumentError
-        If ``lg_k`` or ``width`` is out of its range.
+        If ``lg_k`` or ``width`` is out of range.
     """
 
     __slots__ = ("_image", "_pending", "_pending_bytes", "_lock", "__weakref__")
@@ -173,13 +173,13 @@ class Sketch:
 
         Parameters
         ----------
-        image : bytes, or what shows bytes
-            The image; bytes after it are not looked at.
+        image : bytes, or an object that shares its bytes
+            The image. Bytes after it are not read.
 
         Raises
         ------
         ImageError
-            If the bytes are no image.
+            If the bytes are not an image.
         """
         data = data_in(image)
         return cls._of(_library.convert(data, _library.width_in(data)))
@@ -187,15 +187,15 @@ class Sketch:
     def to_bytes(self, *, plain: bool = False) -> bytes:
         """Return the image: compact, with coupons in ascending order.
 
-        Equal sketches have equal images, but for sets that were read in tables of two sizes.
-        Registers have the fields from which other DataSketches libraries estimate; fields that
-        another library wrote are kept while nothing changes.
+        Equal sketches have equal images, except for sets that were read from tables of different
+        sizes. Registers have the fields that other DataSketches libraries estimate from. Fields that
+        another library wrote are kept until the sketch changes.
 
         Parameters
         ----------
         plain : bool
-            Whether these fields are zero, as the program ``hll_merge`` writes them. Other
-            libraries estimate infinity from those.
+            If true, these fields are zero, as the program ``hll_merge`` writes them. Other libraries
+            then estimate infinity.
         """
         if self._pending:
             self._apply()
@@ -208,14 +208,14 @@ class Sketch:
     def read(cls: Type[_S], path: Union[str, "os.PathLike[str]"]) -> _S:
         """Read the file of a sketch.
 
-        No more of it is read than its first bytes say that the image takes.
+        Only as much is read as the first bytes say that the image needs.
 
         Raises
         ------
         OSError
-            If it can't be read.
+            If the file can't be read.
         ImageError
-            If it is no image; ``place`` is its path.
+            If the file is not an image; ``place`` is its path.
         """
         from .files import read_path
 
@@ -226,16 +226,16 @@ class Sketch:
             raise error.at(None, os.fsdecode(name)) from None
 
     def write(self, path: Union[str, "os.PathLike[str]"]) -> None:
-        """Write the image to a file, which is then on the disk.
+        """Write the image to a file, and sync the file to disk.
 
-        The file is the old one or the new one at each moment, and never a part. It has the bytes of
-        ``to_bytes``.
+        At each moment the file is the old one or the new one, and never incomplete. It has the bytes
+        of ``to_bytes``.
 
         Raises
         ------
         OSError
-            If it can't be written. Then the file is the old one, unless the new one is whole and it
-            is only its name that may not be on the disk yet.
+            If the file can't be written. Then the old file is there, unless the new file is complete
+            and only its name may not be on disk yet.
         """
         from .files import write_path
 
@@ -245,9 +245,9 @@ class Sketch:
     def max_bytes(lg_k: int = 12, width: int = 8) -> int:
         """Return the largest size of an image, in bytes.
 
-        With 8 and 6 bits a register, each image of registers has this size. With 4 bits it takes
-        registers that nearly all are far above the least one; the usual size is half a byte for
-        each register, and 40 to 60 bytes more.
+        With 8-bit and 6-bit registers, each image of registers has this size. 4-bit registers reach
+        it only if nearly all are far above the least register. Their usual size is half a byte for
+        each register and 40 to 60 bytes more.
         """
         count, width = 1 << checked_lg_k(lg_k), checked_width(width)
         return {8: 40 + count, 6: 41 + count * 3 // 4, 4: 36 + count * 9 // 2}[width]
@@ -257,27 +257,27 @@ class Sketch:
     def update(self, value: Value) -> None:
         """Count a value. One that was counted before makes no difference.
 
-        Values are kept and hashed together: once they take four kilobytes, or twice the bytes of
-        the image, or the sketch is asked for anything. So memory may be refused by the call that
-        asks.
+        Values are buffered and hashed together, when they take four kilobytes or twice the size of
+        the image, or when the sketch is used in another way. So that later call may raise
+        ``MemoryError``.
 
         Parameters
         ----------
         value : bytes, bytearray, memoryview, str, int or float
-            Hashed as bytes: of ``str`` its UTF-8, of ``int`` eight bytes, little-endian (in two's
-            complement if it is negative), of ``float`` its binary64, little-endian, with -0.0 as
+            Hashed as bytes: a ``str`` as its UTF-8, an ``int`` as eight bytes, little-endian (in two's
+            complement if it is negative), a ``float`` as its binary64, little-endian, with -0.0 as
             0.0 and one NaN for all. So ``1``, ``1.0`` and ``"1"`` are three values, and ``-1`` is
             the same as ``2**64 - 1``. The DataSketches libraries for Java and C++ hash the same
-            bytes, but they pass over an empty string, which is a value like any other here. That
-            for Rust, and ``update`` of the Rattle crates, hash a ``str`` with a byte ff after it:
-            ``"ann"`` from there is another value.
+            bytes, but they skip an empty string, which is a value like any other here. The Rust
+            library, and ``update`` of the Rattle crates, hash a ``str`` with a byte ff after it, so
+            their ``"ann"`` is another value.
 
         Raises
         ------
         TypeError
-            If it is of another type.
+            If the value has another type.
         OverflowError
-            If it is an ``int`` outside ``-2**63`` to ``2**64 - 1``.
+            If the value is an ``int`` outside ``-2**63`` to ``2**64 - 1``.
         """
         data = bytes_of(value)
         self._pending.append(data)
@@ -291,14 +291,14 @@ class Sketch:
         Parameters
         ----------
         values : iterable
-            Of what ``update`` takes. Numbers of at most eight bytes, and byte strings of one width,
-            are taken from their memory, without an object for each: a NumPy array of one
-            dimension, a pandas ``Series``, an ``array.array``, a ``memoryview`` of numbers. They
-            count as they do one by one. Of an open file, the values are its lines without the LF.
-            One ``str`` or ``bytes``, a ``dict`` or a table is no iterable of values. Where a value
-            is refused, some of those before it have been counted.
+            Values that ``update`` accepts. Numbers of at most eight bytes, and byte strings of one
+            width, are read from memory, without an object for each: a NumPy array of one dimension,
+            a pandas ``Series``, an ``array.array``, a ``memoryview`` of numbers. They count as they
+            do one at a time. The values of an open file are its lines without the LF. A single
+            ``str`` or ``bytes``, a ``dict`` or a table is not accepted. If a value raises an error,
+            some of the values before it have been counted.
         skip_missing : bool
-            Whether missing values are passed over: ``None``, NaN (which pandas puts into a column
+            Whether missing values are skipped: ``None``, NaN (which pandas puts into a column
             of integers), ``pandas.NA``, ``NaT`` and masked values. ``update`` counts NaN itself.
 
         Raises
@@ -313,27 +313,27 @@ class Sketch:
                 self._image = _library.add(self.to_bytes(), *batch)
 
     def update_bytes(self, data: Any, ends: Any) -> None:
-        """Count concatenated byte strings, as in a column of strings of Arrow.
+        """Count concatenated byte strings, such as a column of strings in Arrow.
 
         Parameters
         ----------
-        data : bytes, or what shows bytes
-            All of them, without a gap. Bytes after the last end are not looked at.
+        data : bytes, or an object that shares its bytes
+            The concatenated strings. Bytes after the last end are not read.
         ends : iterable of int, or integers in memory
-            The end of each; the first one begins at 0. (Offsets of Arrow begin with that 0, unless
-            the array is a slice: leave it out.)
+            The end of each string. The first string begins at 0. (Offsets of Arrow begin with that
+            0, unless the array is a slice. Leave it out.)
 
         Raises
         ------
         ArgumentError
-            If the ends descend, or go past the bytes. Then nothing has changed.
+            If the ends descend, or an end is past the bytes. Then nothing has changed.
         """
         batch = batch_of(data, ends)
         with self._lock:
             self._image = _library.add(self.to_bytes(), *batch)
 
     def add_coupon(self, slot: int, value: int) -> None:
-        """Add a coupon itself: what a hash made of a value.
+        """Add a coupon, which is what the hash makes of a value.
 
         Parameters
         ----------
@@ -345,7 +345,7 @@ class Sketch:
         Raises
         ------
         ArgumentError
-            If one is out of its range.
+            If ``slot`` or ``value`` is out of range.
         """
         slot, value = _checked_int("a slot", slot), _checked_int("a value", value)
         if not 0 <= slot < 1 << 26:
@@ -359,16 +359,16 @@ class Sketch:
         """Merge another sketch into this one, which becomes the union of both.
 
         Sketches of one ``lg_k`` are merged at it. Sketches of different ``lg_k`` are merged only if
-        ``lg_max_k`` is given. If one is empty, the union is the other one. The width is that of
-        both, or 8 where they differ.
+        ``lg_max_k`` is given. If one is empty, the union is the other. The width is that of both,
+        or 8 if they differ.
 
         Parameters
         ----------
         other : Sketch
-            It stays as it is.
+            The other sketch, which is unchanged.
         lg_max_k : int, optional
-            The largest ``lg_k`` of the union, 4 to 21. The union has that one, or the least of the
-            sketches in registers that are not all 0, where that is smaller.
+            The largest ``lg_k`` of the union, 4 to 21. The ``lg_k`` of the union is the least of this
+            bound and of the ``lg_k`` of each sketch whose registers are not all 0.
 
         Raises
         ------
@@ -376,7 +376,7 @@ class Sketch:
             If the other sketch has another ``lg_k``, and ``lg_max_k`` is not given. Then nothing
             has changed.
         ArgumentError
-            If ``lg_max_k`` is out of its range.
+            If ``lg_max_k`` is out of range.
         """
         if not isinstance(other, Sketch):
             raise TypeError(f"a Sketch, not {type(other).__name__}")
@@ -415,7 +415,7 @@ class Sketch:
             self._pending_bytes = 0
 
     def _apply(self) -> None:
-        """Applies the values that are kept; they stay where memory is refused."""
+        """Hashes the buffered values. If an allocation fails, they stay in the buffer."""
         with self._lock:
             count = len(self._pending)
             if count:
@@ -429,12 +429,12 @@ class Sketch:
     # ---- other sketches of the same values
 
     def fold(self: _S, lg_k: int) -> _S:
-        """Return the sketch of the same values at a smaller ``lg_k``, or the same.
+        """Return the sketch of the same values at a smaller ``lg_k``, or at the same.
 
         Raises
         ------
         ArgumentError
-            If ``lg_k`` is below 4, or above that of this sketch.
+            If ``lg_k`` is below 4 or above that of this sketch.
         """
         image, lg_k = self.to_bytes(), checked_lg_k(lg_k)
         if lg_k > image[3]:
@@ -452,10 +452,10 @@ class Sketch:
         return self._of(_library.convert(self.to_bytes(), checked_width(width)))
 
     def set_estimator_fields(self) -> None:
-        """Replace the estimator fields of registers by those that follow from the registers.
+        """Recompute the estimator fields from the registers.
 
-        A sketch has these anyway, unless it was read with fields that another DataSketches library
-        wrote while it added values one by one, and was not changed since.
+        A sketch has these fields anyway, unless it was read from an image in which another
+        DataSketches library kept a HIP estimate, and was not changed since.
         """
         with self._lock:
             self._image = _library.set_estimator_fields(self.to_bytes())
@@ -464,7 +464,7 @@ class Sketch:
 
     @property
     def lg_k(self) -> int:
-        """The logarithm of the number of registers."""
+        """The base-2 logarithm of the number of registers."""
         return self._image[3]
 
     @property
@@ -484,16 +484,16 @@ class Sketch:
 
     @property
     def num_coupons(self) -> int:
-        """How many coupons a list or a set has; 0 for registers."""
+        """The number of coupons of a list or a set; 0 for registers."""
         return _library.info(self.to_bytes()).coupons
 
     @property
     def num_zeros(self) -> int:
-        """How many registers are 0; 0 for a list or a set."""
+        """The number of registers that are 0; 0 for a list or a set."""
         return _library.info(self.to_bytes()).zeros
 
     def histogram(self) -> List[int]:
-        """Return how many registers have each value from 0 to 63; coupons count as in registers."""
+        """Return how many registers have each value from 0 to 63. Coupons are counted as registers."""
         return _library.histogram(self.to_bytes())
 
     # ---- estimates
@@ -503,22 +503,22 @@ class Sketch:
         return _library.estimation(self.to_bytes()).estimate
 
     def hip_estimate(self) -> Optional[float]:
-        """Return the estimate that the program which wrote these registers kept in them, if any.
+        """Return the HIP estimate that another program stored with the registers, or None.
 
-        It scatters by a fifth less than ``estimate``, by ``0.83 / sqrt(2**lg_k)``. Sketches that
-        were merged have none, nor have those that this package changed.
+        Its standard error, ``0.83 / sqrt(2**lg_k)``, is a fifth smaller than that of ``estimate``.
+        Merged sketches, and sketches that this package changed, have none.
         """
         found = _library.hip_estimation(self.to_bytes())
         return None if found is None else found.estimate
 
     def bounds(self, deviations: int = 2) -> Tuple[float, float]:
-        """Return a lower and an upper bound of how many distinct values were counted.
+        """Return a lower and an upper bound of the number of distinct values.
 
         Parameters
         ----------
         deviations : int
-            1, 2 or 3 standard deviations: the number is within in about 68, 95 and 99.7 of 100
-            sketches.
+            1, 2 or 3 standard deviations. The number of values is between the bounds for about 68,
+            95 or 99.7 of 100 sketches.
 
         Raises
         ------
@@ -530,15 +530,15 @@ class Sketch:
         return found.lower[number], found.upper[number]
 
     def lower_bound(self, deviations: int = 2) -> float:
-        """Return the lower one of ``bounds``."""
+        """Return the lower bound of ``bounds``."""
         return self.bounds(deviations)[0]
 
     def upper_bound(self, deviations: int = 2) -> float:
-        """Return the upper one of ``bounds``."""
+        """Return the upper bound of ``bounds``."""
         return self.bounds(deviations)[1]
 
     def relative_standard_error(self) -> float:
-        """Return the standard deviation of the estimate, as a part of the number of values."""
+        """Return the standard deviation of the estimate, as a fraction of the number of values."""
         return _library.estimation(self.to_bytes()).relative_standard_error
 
     # ---- comparing
@@ -567,7 +567,7 @@ class Sketch:
     # ---- copies
 
     def copy(self: _S) -> _S:
-        """Return a sketch of the same values that changes for itself."""
+        """Return an independent copy."""
         return self._of(self.to_bytes())
 
     def __copy__(self: _S) -> _S:

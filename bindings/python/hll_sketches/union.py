@@ -15,13 +15,13 @@ Source = Union[Sketch, Buffer]
 
 
 def checked_bounds(lg_max_k: Optional[int], width: Optional[int]) -> Tuple[int, Optional[int]]:
-    """A bound, or 0 for none, and a width, if there is one, that are in their ranges."""
+    """Returns a bound, or 0 for none, and a width, or None, that are in range."""
     bound = 0 if lg_max_k is None else checked_lg_k(lg_max_k)
     return bound, None if width is None else checked_width(width)
 
 
 def _images(sources: Iterable[Source]) -> Iterator[bytes]:
-    """The image of each sketch."""
+    """Yields the image of each sketch."""
     if isinstance(sources, (bytes, bytearray, memoryview, Sketch)):
         name = type(sources).__name__
         raise TypeError(f"expected many sketches, not one {name}: pass a list of it")
@@ -34,23 +34,22 @@ class SketchUnion:
     Sketches of one ``lg_k`` are merged at it. Sketches of different ``lg_k`` are merged only if
     ``lg_max_k`` is given. Empty sketches count for nothing.
 
-    The order of the sketches and their repetition make no difference to the registers, and neither
-    does it whether some of them were merged before with the same ``lg_max_k``. Any number of
-    threads may use a union at once.
+    The registers don't depend on the order of the sketches, on repetition, or on whether some of them
+    were merged before with the same ``lg_max_k``. Any number of threads may use a union at once.
 
     Parameters
     ----------
     lg_max_k : int, optional
-        The largest ``lg_k`` of the union, 4 to 21. The union has that one, or the least of the
-        sketches in registers that are not all 0, where that is smaller.
+        The largest ``lg_k`` of the union, 4 to 21. The ``lg_k`` of the union is the least of this
+        bound and of the ``lg_k`` of each sketch whose registers are not all 0.
     width : int, optional
-        The bits of a register of the sketch that the union gives, 4, 6 or 8. If it is not given,
-        it is the width of the sketches, or 8 where they differ.
+        The bits of a register of the union's sketch, 4, 6 or 8. By default it is the width of the
+        sketches, or 8 if they differ.
 
     Raises
     ------
     ArgumentError
-        If ``lg_max_k`` or ``width`` is out of its range.
+        If ``lg_max_k`` or ``width`` is out of range.
     """
 
     __slots__ = ("_width", "_state", "_lock", "__weakref__")
@@ -62,12 +61,12 @@ class SketchUnion:
 
     @property
     def lg_max_k(self) -> Optional[int]:
-        """The largest ``lg_k`` of the union; None where none was given."""
+        """The largest ``lg_k`` of the union, or None if none was given."""
         return self._state.lg_max_k or None
 
     @property
     def width(self) -> Optional[int]:
-        """The width that was given, if one was."""
+        """The width that was given, or None."""
         return self._width
 
     def update(self, sketch: Source) -> None:
@@ -76,10 +75,10 @@ class SketchUnion:
         Raises
         ------
         ImageError
-            If the bytes are no image. Then nothing has changed.
+            If the bytes are not an image. Then nothing has changed.
         PrecisionError
-            If it has another ``lg_k`` than the union, neither is empty, and no ``lg_max_k`` was
-            given. Then nothing has changed.
+            If the sketch has another ``lg_k`` than the union, neither is empty, and no ``lg_max_k``
+            was given. Then nothing has changed.
         """
         image = image_in(sketch)
         with self._lock:
@@ -91,8 +90,8 @@ class SketchUnion:
         Raises
         ------
         ImageError, PrecisionError
-            As ``update`` does. Then nothing has changed. ``number`` says which sketch it is, from
-            0; it is None if these have one ``lg_k``, and the union another one.
+            As ``update`` does. Then nothing has changed. ``number`` is the index of the sketch. It is
+            None if all these sketches have one ``lg_k``, and the union has another.
         """
         taken = State(self._state.lg_max_k)
         taken.join_stream(_images(sketches))
@@ -103,7 +102,7 @@ class SketchUnion:
         """Count many values, as ``Sketch.update_many`` does.
 
         They are counted at the ``lg_k`` of the union: that of its sketches, or ``lg_max_k``, or 12.
-        If one is refused, nothing has changed.
+        If a value raises an error, nothing has changed.
         """
         made = Sketch(self.lg_k)
         made.update_many(values, skip_missing=skip_missing)
@@ -133,19 +132,19 @@ class SketchUnion:
         return self.sketch().estimate()
 
     def bounds(self, deviations: int = 2) -> Tuple[float, float]:
-        """Return a lower and an upper bound of how many values, as ``Sketch.bounds`` does."""
+        """Return a lower and an upper bound of the number of values, as ``Sketch.bounds`` does."""
         return self.sketch().bounds(deviations)
 
     def lower_bound(self, deviations: int = 2) -> float:
-        """Return the lower one of ``bounds``."""
+        """Return the lower bound of ``bounds``."""
         return self.bounds(deviations)[0]
 
     def upper_bound(self, deviations: int = 2) -> float:
-        """Return the upper one of ``bounds``."""
+        """Return the upper bound of ``bounds``."""
         return self.bounds(deviations)[1]
 
     def relative_standard_error(self) -> float:
-        """Return the standard deviation of the estimate, as a part of the number of values."""
+        """Return the standard deviation of the estimate, as a fraction of the number of values."""
         return self.sketch().relative_standard_error()
 
     def to_bytes(self) -> bytes:
@@ -155,7 +154,7 @@ class SketchUnion:
     def sketch(self) -> Sketch:
         """Return the sketch of the union so far.
 
-        If no sketch was merged and no ``lg_max_k`` was given, it is empty, with ``lg_k`` 12.
+        If no sketch was merged and no ``lg_max_k`` was given, it is an empty sketch at ``lg_k`` 12.
         """
         with self._lock:
             return Sketch._of(self._state.image(self._width))
@@ -163,7 +162,7 @@ class SketchUnion:
     # ---- copies
 
     def copy(self: _U) -> _U:
-        """Return a union of the same sketches that others can be merged into."""
+        """Return an independent copy."""
         made = type(self)(self.lg_max_k, self._width)
         with self._lock:
             made._state = self._state.copy()
@@ -196,7 +195,7 @@ class SketchUnion:
 def merged(
     sketches: Iterable[Source], lg_max_k: int, width: Optional[int] = None
 ) -> Optional[bytes]:
-    """The image of the union under a bound, or without one for 0; None without sketches."""
+    """Returns the image of the union under a bound, or without one for 0; None without sketches."""
     state = State(lg_max_k)
     state.join_stream(_images(sketches))
     return state.image(width) if state.count else None
@@ -207,31 +206,31 @@ def union_of(
 ) -> Sketch:
     """Return the union of sketches or images.
 
-    This is the fastest way to merge many of them. Sketches of one ``lg_k`` are merged at it, and
-    sketches of different ``lg_k`` only if ``lg_max_k`` is given. Empty sketches count for nothing;
-    if all are empty, the union has their greatest ``lg_k``. Without sketches it is empty, with
-    ``lg_max_k``, or 12.
+    This is the fastest way to merge many sketches. Sketches of one ``lg_k`` are merged at it, and
+    sketches of different ``lg_k`` only if ``lg_max_k`` is given. Empty sketches count for nothing. If
+    all are empty, the union has their greatest ``lg_k``. Without sketches the union is empty, at
+    ``lg_max_k`` or at 12.
 
     Parameters
     ----------
     sketches : iterable
-        Of ``Sketch``, or of images as bytes.
+        ``Sketch`` objects, or images as bytes.
     lg_max_k : int, optional
-        The largest ``lg_k`` of the union, 4 to 21. The union has that one, or the least of the
-        sketches in registers that are not all 0, where that is smaller.
+        The largest ``lg_k`` of the union, 4 to 21. The ``lg_k`` of the union is the least of this
+        bound and of the ``lg_k`` of each sketch whose registers are not all 0.
     width : int, optional
-        The bits of a register of the union, 4, 6 or 8. If it is not given, it is the width of the
-        sketches, or 8 where they differ.
+        The bits of a register of the union, 4, 6 or 8. By default it is the width of the sketches, or
+        8 if they differ.
 
     Raises
     ------
     ImageError
-        If one is no image; ``number`` says which, from 0.
+        If bytes are not an image. ``number`` is the index.
     PrecisionError
-        If one has another ``lg_k`` than those before it, and no ``lg_max_k`` was given; ``number``
-        says which, from 0.
+        If a sketch has another ``lg_k`` than those before it, and no ``lg_max_k`` was given.
+        ``number`` is the index.
     ArgumentError
-        If ``lg_max_k`` or ``width`` is out of its range.
+        If ``lg_max_k`` or ``width`` is out of range.
     """
     bound, width = checked_bounds(lg_max_k, width)
     state = State(bound)
