@@ -187,10 +187,10 @@ def _filled(call: Call, kind: Type[_Structure], *more: int) -> _Structure:
     """Returns what a call says of the known image, if it fills exactly the structure."""
     size, guard = ctypes.sizeof(kind), b"\xa5" * 256
     room = (c_uint8 * (size + len(guard))).from_buffer_copy(b"\xa5" * size + guard)
-    told = ctypes.cast(room, POINTER(kind))
-    if call(_KNOWN, len(_KNOWN), told, *more) != OK or bytes(room)[size:] != guard:
+    filled = ctypes.cast(room, POINTER(kind))
+    if call(_KNOWN, len(_KNOWN), filled, *more) != OK or bytes(room)[size:] != guard:
         raise ImportError(f"its {kind.__name__.lower()} is laid out in another way")
-    return told.contents
+    return filled.contents
 
 
 def _check_version(number: int) -> None:
@@ -202,8 +202,8 @@ def _check_version(number: int) -> None:
 
 def _check_answers(calls: Dict[str, Call]) -> None:
     """Raises an error for a library with other results for the known image."""
-    told = _filled(calls["hll_image_info"], Info, ctypes.sizeof(Info))
-    if (told.coupons, told.lg_k, told.width, told.stage) != (1, 10, 8, 0):
+    found = _filled(calls["hll_image_info"], Info, ctypes.sizeof(Info))
+    if (found.coupons, found.lg_k, found.width, found.stage) != (1, 10, 8, 0):
         raise ImportError("its info is laid out in another way")
     counts = list(_filled(calls["hll_image_histogram"], Histogram).counts)
     if counts != [1023, 0, 0, 1] + [0] * 60:

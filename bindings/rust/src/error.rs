@@ -28,7 +28,7 @@ pub struct Error {
 
 #[derive(Debug, Clone, PartialEq, Eq)]
 pub(crate) enum Cause {
-    /// Bytes of this length are rejected, for the status.
+    /// Returns the error for bytes of this length that are rejected with a status.
     Image {
         status: Status,
         len: usize,
@@ -44,7 +44,7 @@ pub(crate) enum Cause {
         name: &'static str,
         given: u8,
     },
-    /// Images of another `lg_k` came before this one.
+    /// Returns the error for an image after images of another `lg_k`.
     OtherLgK {
         lg_k: u8,
         other: u8,
@@ -87,7 +87,7 @@ impl Error {
         Self::new(Cause::OtherLgK { lg_k, other: image.get(3).copied().unwrap_or(0), index: None })
     }
 
-    /// Says which of several images it is, from 0.
+    /// Returns the error with the index of the image.
     pub(crate) fn at(mut self, number: usize) -> Self {
         if let Cause::Image { index, .. } | Cause::OtherLgK { index, .. } = &mut self.cause {
             *index = Some(number);
@@ -160,10 +160,10 @@ impl fmt::Display for Error {
 
 impl std::error::Error for Error {}
 
-/// The answer of a call on memory that a sketch owns. It fails only where an allocation does; then this ends the program, as a
-/// `Vec` does that can't grow.
-pub(crate) fn or_abort<T>(answer: Result<T, Error>) -> T {
-    match answer {
+/// Returns the value of a call on memory that a sketch owns. The call fails only if an allocation fails. Then this ends the
+/// program, as a `Vec` does that can't grow.
+pub(crate) fn or_abort<T>(result: Result<T, Error>) -> T {
+    match result {
         Ok(value) => value,
         Err(error) if error.kind() == ErrorKind::OutOfMemory => handle_alloc_error(Layout::new::<[u8; 64]>()),
         Err(error) => unreachable!("the memory of a sketch is damaged: {error}"),

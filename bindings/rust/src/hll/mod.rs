@@ -46,7 +46,7 @@ use crate::common::Estimation;
 use crate::error::{or_abort, Cause, Error};
 use crate::libhll;
 
-/// The number of bits that a register takes in an image. It changes the size of images, and nothing else.
+/// The number of bits of a register in an image. It changes only the size of images.
 #[derive(Debug, Clone, Copy, PartialEq, Eq)]
 pub enum HllType {
     /// 4 bits: about 2^`lg_k` / 2 bytes.

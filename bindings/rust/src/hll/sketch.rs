@@ -134,7 +134,7 @@ impl HllSketch {
     }
 
     /// Returns the lower bound at this number of standard deviations. It is never below the number of coupons, or of
-    /// registers above 0: there were at least so many values.
+    /// registers above 0, as each of them came from a value of its own.
     pub fn lower_bound(&self, num_std_dev: NumStdDev) -> f64 {
         self.estimation().lower_bound(num_std_dev)
     }

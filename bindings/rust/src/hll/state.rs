@@ -29,9 +29,9 @@ impl Clone for State {
     }
 }
 
-/// The answer of a call on a state alone, which fails only where an allocation does: only the library changes its bytes.
-fn owned<T>(answer: Result<T, Status>) -> Result<T, Error> {
-    answer.map_err(|status| Error::of_image(status, 0))
+/// Converts the result of a call on a state, which fails only if an allocation fails: only the library changes its bytes.
+fn owned<T>(result: Result<T, Status>) -> Result<T, Error> {
+    result.map_err(|status| Error::of_image(status, 0))
 }
 
 impl State {
