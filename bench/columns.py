@@ -1,6 +1,6 @@
 #!/usr/bin/env python3
 # SPDX-License-Identifier: Apache-2.0
-"""Measures whole queries of PostgreSQL over columns, beside postgresql-hll where that is installed: values counted by group,
+"""Measures whole queries of PostgreSQL over columns, next to postgresql-hll if that is installed: values counted by group,
 unions of a table whose sketches are toasted, as bindings/postgresql/README.md makes it, and merges in a loop, in an aggregate
 and over a moving window.
 

@@ -1,5 +1,5 @@
 /* SPDX-License-Identifier: Apache-2.0 */
-/* Times calls of libhll at lg_k 12 beside loops over the same bytes, pair by pair, and prints a row for each: its name,
+/* Times calls of libhll at lg_k 12 compared with loops over the same bytes, pair by pair, and prints a row for each: its name,
  * the nanoseconds of the call and of the loop, and the median of their ratios. What both make is compared before they are
  * timed. `compare NAME ROUNDS call|loop` runs one of a row alone so many times, so that its instructions can be counted. */
 #define _POSIX_C_SOURCE 199309L
@@ -232,7 +232,7 @@ int main(int count, char **arguments)
     if (count == 4)
         return run_alone(arguments[1], atoi(arguments[2]), arguments[3]);
     compare_with_loops();
-    printf("| call | beside | ns | beside, ns | ratio |\n|---|---|---|---|---|\n");
+    printf("| call | compared with | ns | that, ns | ratio |\n|---|---|---|---|---|\n");
     for (row = 0; row < ROWS; row++)
         time_row(row);
     return 0;

@@ -1,11 +1,11 @@
 #!/usr/bin/env python3
 # SPDX-License-Identifier: Apache-2.0
-"""Times calls of libhll at lg_k 12 beside plain loops in C, and beside the Rust crate `datasketches`.
+"""Times calls of libhll at lg_k 12 compared with plain loops in C, and with the Rust crate `datasketches`.
 
     bench/compare.py [--crate FOLDER]
 
 FOLDER has the source of the crate, version 0.6.0, as its registry gives it; without it the rows of the crate are left out.
-Needs bindings/c built, a C compiler, and for the crate `cargo`. Prints tables for docs/NUMBERS.md, "Beside other code".
+Needs bindings/c built, a C compiler, and for the crate `cargo`. Prints tables for docs/NUMBERS.md, "Next to other code".
 
 Targets, as ratios to the crate's time. A target for one width names it.
 

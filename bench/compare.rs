@@ -1,5 +1,5 @@
 // SPDX-License-Identifier: Apache-2.0
-//! Times calls of libhll at lg_k 12 beside the Rust crate `datasketches`, pair by pair, by bytes in and bytes out. Prints a row
+//! Times calls of libhll at lg_k 12 compared with the Rust crate `datasketches`, pair by pair, by bytes in and bytes out. Prints a row
 //! for each call, and for each kind of image the median of the ratios, and the nanoseconds of the call. bench/compare.py
 //! builds and runs it.
 use datasketches::hll::{HllSketch, HllType, HllUnion};
@@ -232,7 +232,7 @@ fn time_convert(kind: &Kind) -> String {
     )
 }
 
-/// Beside images of the same bytes, or of the same registers without estimator fields.
+/// Compared with images of the same bytes, or of the same registers without estimator fields.
 fn time_agree(kind: &Kind, without_fields: bool) -> String {
     let images = &kind.images;
     let mut copies = images.clone();

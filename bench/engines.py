@@ -9,7 +9,7 @@ The images are 100,000 distinct ones of lg_k 12 at 8, 6 and 4 bits, and as many 
 or are in the order of their tables ("in table order"), as other libraries write them. They are compared with
 postgresql-hll, where it is installed, on sketches of the same registers at 5 bits, and of as many values. Contestants
 take turns, and each number is the median over the rounds; so is each ratio, over the ratios of the rounds. In PostgreSQL
-the time of a scan alone (`count`) is taken off. Dask reads a folder of 20,000 files, and so does the process beside it.
+the time of a scan alone (`count`) is taken off. Dask reads a folder of 20,000 files, and so does the process that it is compared with.
 
 Needs bindings/c built, a PostgreSQL server with its headers, and for Dask a Python with `distributed`; what is missing is
 left out. The random numbers are the same at each run. Prints tables for docs/NUMBERS.md.
@@ -352,7 +352,7 @@ def measure_dask(arguments):
 
 
 def measure_workers(arguments, workers, folder, paths):
-    """Dask with so many workers, which are up, beside one process."""
+    """Dask with a number of running workers, compared with one process."""
     from distributed import Client, LocalCluster
     from hll_sketches import union_of
     from hll_sketches.dask import union_of_files

@@ -4,7 +4,7 @@
 
     pictures.py [--check]
 
-With --check it only tells which of them are not what it draws, and ends with status 1 if any is. Needs the Python
+With --check it only prints which of them differ from what it draws, and ends with status 1 if any is. Needs the Python
 package's library (bindings/c).
 """
 import math
@@ -39,7 +39,7 @@ LEGEND = (
 )
 
 # Each box: its row, how many rows it is high, where it begins and ends in parts of 12, what is known of it, its name,
-# and a line for each thing that is told.
+# and a line for each fact.
 LAYERS = (
     (0, 2, 0, 3, PROVED, "Programs",
         "hll_merge: a plan in,", "one image out", "hll_estimator_fields: what", "others estimate from"),
@@ -56,19 +56,19 @@ LAYERS = (
     (4, 1, 0, 6, PROVED, "Coupons", "the hash of a value; lists, sets, folds, probing"),
     (4, 1, 6, 12, PROVED, "Registers", "of eight, six and four bits; merges, conversions"),
     (5, 1, 0, 12, PROVED, "Images",
-        "bytes are read whole, or refused with the reason; what is written is read back the same"),
+        "bytes are read completely or rejected with a reason; what is written is read back unchanged"),
     (6, 1, 0, 12, TRUSTED, "Toolchain", "the prover and compilers, the C library, the processor"),
 )
 
 
-def box(row, rows, first, last, known, name, *told):
+def box(row, rows, first, last, known, name, *facts):
     """A box of the picture of layers."""
     part = (WHOLE + GAP) / 12
     x, y = LEFT + first * part, TOP + row * (ROW + GAP)
     width, height = (last - first) * part - GAP, rows * (ROW + GAP) - GAP
     yield f'<rect x="{x:.1f}" y="{y}" width="{width:.1f}" height="{height}" rx="4" class="{known}"/>'
     yield plot.words(x + 12, y + 27, name, "name")
-    for number, line in enumerate(told):
+    for number, line in enumerate(facts):
         yield plot.words(x + 12, y + 48 + 19 * number, line)
 
 
@@ -109,8 +109,8 @@ def union():
     parts += cells(124, "another", there, here)
     parts.append(f'<path d="M{LEFT} 193H620" class="grid"/>')
     parts += cells(210, "their union", [max(pair) for pair in zip(here, there)])
-    told = "The greatest of many numbers doesn't depend on their order, their groups, or repeats."
-    parts.append(plot.words(LEFT, 292, told))
+    sentence = "The greatest of many numbers doesn't depend on their order, their groups, or repeats."
+    parts.append(plot.words(LEFT, 292, sentence))
     return plot.document(640, 312, STYLE, UNION_TITLE, parts)
 
 

@@ -1,6 +1,6 @@
 #!/usr/bin/env python3
 # SPDX-License-Identifier: Apache-2.0
-"""Measures the program on whole plans, beside the least work on their text: time, instructions and memory.
+"""Measures the program on whole plans, compared with the least work on their text: time, instructions and memory.
 
 The baseline is the small program hll_baseline: it reads the same text in pieces, finds its lines, decodes the words of
 `image` lines by the same crate into one buffer, and reads the numbers of other lines. Each plan is written to a

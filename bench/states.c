@@ -1,6 +1,6 @@
 /* SPDX-License-Identifier: Apache-2.0 */
-/* Times calls on states at lg_k 12 beside calls over images, pair by pair, and prints a table for docs/NUMBERS.md, "States". A
- * second table has values, images and orders that were chosen to be slow beside random ones. bench/states.py builds and
+/* Times calls on states at lg_k 12 compared with calls over images, pair by pair, and prints a table for docs/NUMBERS.md, "States". A
+ * second table has values, images and orders that were chosen to be slow, compared with random ones. bench/states.py builds and
  * runs it. */
 #define _POSIX_C_SOURCE 199309L
 #include "images.h"
@@ -128,7 +128,7 @@ static void begin_image(uint8_t width, size_t values_of_each)
     run_image();
 }
 
-/* ---- chosen inputs beside random ones ---- */
+/* ---- chosen inputs and random ones ---- */
 
 /* A state of so many coupons at lg_k 18, which become registers at 24,577, and then the first ones again. */
 static void add_in_order(size_t distinct, int descending)
@@ -229,7 +229,7 @@ int main(void)
     if ((images = malloc(IMAGES * sizeof out)) == NULL)
         return 1;
     make_numbers();
-    printf("| on states | beside | ns | beside, ns | ratio |\n|---|---|---|---|---|\n");
+    printf("| on states | compared with | ns | that, ns | ratio |\n|---|---|---|---|---|\n");
     row("`hll_state_new`", run_new, "`hll_image_new`", beside_new, IMAGES);
     for (i = 0; i < sizeof counts / sizeof counts[0]; i++) {
         count_of_values = counts[i];

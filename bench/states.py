@@ -1,6 +1,6 @@
 #!/usr/bin/env python3
 # SPDX-License-Identifier: Apache-2.0
-"""Times calls on states of libhll at lg_k 12 beside calls over images, and inputs that were chosen to be slow beside random ones.
+"""Times calls on states of libhll at lg_k 12 compared with calls over images, and inputs that were chosen to be slow, compared with random ones.
 
     bench/states.py
 

@@ -43,7 +43,7 @@ def given_and_canonical(plan, is_path):
     return bytes.fromhex(text[prefix:].strip()), canonical
 
 
-# ---- contestants: what each call answers, beside what it has to
+# ---- contestants: what each call returns, and what it should return
 
 
 def calls_of_c(image, canonical):

@@ -1,6 +1,6 @@
 #!/usr/bin/env python3
 # SPDX-License-Identifier: Apache-2.0
-"""Tries the mutants of the crates: edits that make a function wrong, each of which the prover has to refuse.
+"""Tries the mutants of the crates: edits that make a function wrong, each of which the prover has to reject.
 
     scripts/mutants.py [--all] [--log FOLDER] [CRATE ..]       those of mutants/CRATE, of all crates if none is named
     scripts/mutants.py [CRATE ..] --only NAME ..                these alone, of crates/CRATE/must-fail too
@@ -10,13 +10,13 @@ Run `rt ci` or `rt check` first: a check reads the libraries that they leave. A 
 itself, one by one.
 
 The mutants of a crate are applied together, as far as they change different functions, and one check tries them all. Each
-changed function must then be refused at a goal of its own. That it calls a function that was refused is not enough. A
+changed function must then be rejected at a goal of its own. That it calls a rejected function is not enough. A
 mutant that a check doesn't settle in this way is tried alone, and the prover's exit status decides. So is one that changes
 more than the body of a function, for example a contract, a type or a lemma.
 
-A refused mutant is kept under ~/.cache/hll-sketches/mutants (or $XDG_CACHE_HOME), by the checksum of all that was read, and
+A rejected mutant is kept under ~/.cache/hll-sketches/mutants (or $XDG_CACHE_HOME), by the checksum of all that was read, and
 not tried again while that stays the same; --all tries each of them. The last line is 'N passed, M failed'. The exit status is 0 if
-all were refused, 1 if not, and 2 if the command can't be understood.
+all were rejected, 1 if not, and 2 if the command can't be understood.
 """
 import argparse
 import collections
@@ -41,7 +41,7 @@ TOGETHER = 20       # the most mutants in one check: two checks side by side end
 
 # What came of a mutant. `how` says whether it was tried "together" with others or "alone", or was "kept" from an earlier run.
 Verdict = collections.namedtuple("Verdict", "mutant word how words")
-REFUSED, MISSED, BAD, UNTRIED, EMPTY = "refused", "NOT REFUSED", "BAD EDIT", "NOT TRIED", "TELLS NOTHING"
+REJECTED, MISSED, BAD, UNTRIED, EMPTY = "rejected", "NOT REJECTED", "BAD EDIT", "NOT TRIED", "SHOWS NOTHING"
 
 
 # ---- Mutants, and the function that each changes ----
@@ -233,7 +233,7 @@ class Work:
             notes = heard.notes_in(mutant.file, mutant.body.first, mutant.body.last)
             kind, words = heard.of(function, notes)
             if kind == OWN:
-                settled[mutant] = Verdict(mutant, REFUSED, "together", "%s: %s" % (function, words))
+                settled[mutant] = Verdict(mutant, REJECTED, "together", "%s: %s" % (function, words))
         return settled
 
     def without_bad(self, mutants, heard, start):
@@ -259,8 +259,8 @@ class Work:
         function = mutant.function() and named(heard, mutant)
         kind, words = heard.of(function, heard.notes_in(mutant.file, mutant.body.first, mutant.body.last)) if function else ("", "")
         if kind == NAMES:
-            return Verdict(mutant, EMPTY, "alone", "it is refused only because a proof names what it takes away: " + words)
-        return Verdict(mutant, REFUSED, "alone", "%s: %s" % (function, words) if kind == OWN else heard.first_error())
+            return Verdict(mutant, EMPTY, "alone", "it is rejected only because a proof names what it takes away: " + words)
+        return Verdict(mutant, REJECTED, "alone", "%s: %s" % (function, words) if kind == OWN else heard.first_error())
 
 
 def named(heard, mutant):
@@ -277,7 +277,7 @@ def is_closure_in(function, mutants):
 # ---- All crates ----
 
 class Store:
-    """The mutants of a crate that earlier runs saw refused, by the checksum of all that they read. `known` are those that needn't
+    """The mutants of a crate that earlier runs saw rejected, by the checksum of all that they read. `known` are those that needn't
     be tried again."""
 
     def __init__(self, name, sum, is_whole):
@@ -289,8 +289,8 @@ class Store:
         self.known = {} if is_whole else dict(self.found)
 
     def keep(self, verdicts):
-        """Keeps the refused ones of these verdicts. A file that can't be written is no fault: the next run tries them again."""
-        self.found.update({it.mutant.sum: it.words for it in verdicts if it.word == REFUSED})
+        """Keeps the verdicts of rejected mutants. A file that can't be written is no fault: the next run tries them again."""
+        self.found.update({it.mutant.sum: it.words for it in verdicts if it.word == REJECTED})
         with contextlib.suppress(OSError):
             self.file.parent.mkdir(parents=True, exist_ok=True)
             with tempfile.NamedTemporaryFile("w", dir=self.file.parent, delete=False) as made:
@@ -350,7 +350,7 @@ def try_all(prover, found, is_whole=False):
     for name, mutants in found.items():
         store = Store(name, prover.sum_of(name), is_whole)
         kept = [it for it in mutants if it.sum in store.known and not it.fault]
-        yield [Verdict(it, REFUSED, "kept", store.known[it.sum]) for it in kept]
+        yield [Verdict(it, REJECTED, "kept", store.known[it.sum]) for it in kept]
         yield [Verdict(it, BAD, "alone", it.fault) for it in mutants if it.fault]
         new = [it for it in mutants if it not in kept and not it.fault]
         lacking = new and prover.lacking(name)
@@ -384,33 +384,33 @@ def main(words):
         given.log.mkdir(parents=True, exist_ok=True)
     passed, failed = 0, len(faults)
     for verdicts in try_all(Prover(ROOT, given.log), found, given.all):
-        refused = sum(it.word == REFUSED for it in verdicts)
-        passed, failed = passed + refused, failed + len(verdicts) - refused
-        tell(verdicts, given.only)
+        rejected = sum(it.word == REJECTED for it in verdicts)
+        passed, failed = passed + rejected, failed + len(verdicts) - rejected
+        report(verdicts, given.only)
     print("%d passed, %d failed" % (passed, failed))
     return 1 if failed else 0
 
 
-def tell(verdicts, each):
+def report(verdicts, each):
     """Prints verdicts, and of those that were kept only how many there are, unless each is asked for."""
     kept = [it for it in verdicts if it.how == "kept" and not each]
     for it in verdicts:
         if it not in kept:
-            mark = "" if it.word == REFUSED else "FAIL: "
+            mark = "" if it.word == REJECTED else "FAIL: "
             print("%s%s/%s: %s, %s: %s" % (mark, it.mutant.crate, it.mutant.name, it.word, it.how, it.words[:200]), flush=True)
     if kept:
         count, crate = len(kept), kept[0].mutant.crate
-        print("kept: %s: an earlier run over the same sources saw %d of its mutants refused" % (crate, count), flush=True)
+        print("kept: %s: an earlier run over the same sources saw %d of its mutants rejected" % (crate, count), flush=True)
 
 
 def read_words(words):
     """Returns what the command line asks for."""
-    told = argparse.ArgumentParser(prog="mutants.py", description=__doc__, formatter_class=argparse.RawDescriptionHelpFormatter)
-    told.add_argument("--all", action="store_true", help="try also what earlier runs saw refused")
-    told.add_argument("--log", type=pathlib.Path, metavar="FOLDER", help="write there what each check says")
-    told.add_argument("--only", nargs="+", default=[], metavar="NAME", help="try these mutants alone")
-    told.add_argument("crate", nargs="*", metavar="CRATE")
-    return told.parse_args(words)
+    parser = argparse.ArgumentParser(prog="mutants.py", description=__doc__, formatter_class=argparse.RawDescriptionHelpFormatter)
+    parser.add_argument("--all", action="store_true", help="also try what earlier runs saw rejected")
+    parser.add_argument("--log", type=pathlib.Path, metavar="FOLDER", help="write there what each check says")
+    parser.add_argument("--only", nargs="+", default=[], metavar="NAME", help="try these mutants alone")
+    parser.add_argument("crate", nargs="*", metavar="CRATE")
+    return parser.parse_args(words)
 
 
 if __name__ == "__main__":

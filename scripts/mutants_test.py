@@ -1,7 +1,7 @@
 #!/usr/bin/env python3
 # SPDX-License-Identifier: Apache-2.0
 """Tests scripts/mutants.py: with answers of a prover that are made up here, and with the prover itself on mutants of hll_base
-whose answers are known. Some of them mean the same as the code, so they must be reported as not refused, also where they
+whose answers are known. Some of them mean the same as the code, so they must be reported as not rejected, also where they
 call a function that another mutant makes wrong. Takes some minutes, and a second where the same was tested before: what
 passed is kept as the mutants are.
 
@@ -21,7 +21,7 @@ import unittest.mock
 sys.dont_write_bytecode = True
 import mutants
 import prover
-from mutants import BAD, MISSED, REFUSED, ROOT, UNTRIED
+from mutants import BAD, MISSED, REJECTED, ROOT, UNTRIED
 
 CRATE = "hll_base"
 FIRST = (
@@ -36,20 +36,20 @@ REAL = {
     "same_of_a_wrong_callee": (
         "codec.rt", ("self.write(&u32::to_le_bytes(number))", "let bytes = u32::to_le_bytes(number); self.write(&bytes)"), MISSED, "alone"),
     "same_of_a_trait": ("hash.rt", ("        self.finish128().0", "        let both = self.finish128(); both.0"), MISSED, "alone"),
-    "wrong_callee": ("codec.rt", FIRST, REFUSED, "together"),
+    "wrong_callee": ("codec.rt", FIRST, REJECTED, "together"),
     "wrong_of_a_wrong_callee": (
-        "codec.rt", ("self.write(&u64::to_le_bytes(number))", "self.write(&u64::to_be_bytes(number))"), REFUSED, "together"),
+        "codec.rt", ("self.write(&u64::to_le_bytes(number))", "self.write(&u64::to_be_bytes(number))"), REJECTED, "together"),
     "wrong_with_a_proof_by_hand": (
-        "hash.rt", ("halves.absorb_rest(&self.block, self.partial);", "halves.absorb_rest(&self.block, 0);"), REFUSED, "together"),
+        "hash.rt", ("halves.absorb_rest(&self.block, self.partial);", "halves.absorb_rest(&self.block, 0);"), REJECTED, "together"),
     "wrong_type": ("cursor.rt", ("buffer.copy_from_slice(first);", 'buffer.fill("x");'), BAD, "alone"),
     "of_a_contract": (
-        "codec.rt", ("        ensures { result.items ≡ self }", "        ensures { result.items ≡ self ++ 1 ∷ [] }"), REFUSED, "alone"),
+        "codec.rt", ("        ensures { result.items ≡ self }", "        ensures { result.items ≡ self ++ 1 ∷ [] }"), REJECTED, "alone"),
     "of_a_constant": (
         "family.rt", ("    pub const HLL: Family = Family { id: 7 };", "    pub const HLL: Family = Family { id: 8 };"), BAD, "alone"),
     "absent": ("family.rt", ("no such text", "another"), BAD, "alone"),
 }
 # What of them is tried once more by a runner that finds nothing in what the prover says.
-UNREAD = {"same": (MISSED, "alone"), "wrong_with_a_proof_by_hand": (REFUSED, "alone")}
+UNREAD = {"same": (MISSED, "alone"), "wrong_with_a_proof_by_hand": (REJECTED, "alone")}
 
 # What a prover may say when the functions `Family::validate_id` and `finish128` are changed, its status, whether it says it
 # of both together, and the verdicts that follow on both if each alone is proved.
@@ -59,12 +59,12 @@ OWN = "no proof: expected answers in ./proofs/x/Answers.antt; `search` did not p
 CALLEE = "no proof: it calls `hll_base::halves::mix`, which is not proved"
 END = "only=9 proved=7\n"
 MADE_UP = {
-    "both are refused": (LINE % (ID, OWN) + LINE % (FINISH, OWN) + END, 1, [REFUSED, REFUSED]),
-    "one is refused as it calls another": (LINE % (ID, CALLEE) + LINE % (FINISH, OWN) + END, 1, [MISSED, REFUSED]),
-    "one is proved": (LINE % (ID, "proved") + LINE % (FINISH, OWN) + END, 1, [MISSED, REFUSED]),
-    "one is not named": (LINE % (FINISH, OWN) + END, 1, [MISSED, REFUSED]),
-    "a caller is refused as it calls them": (LINE % (ID, OWN) + LINE % (FINISH, OWN) + LINE % (ABOVE, CALLEE) + END, 1, [REFUSED, REFUSED]),
-    "a function that is not changed is refused": (LINE % (ID, OWN) + LINE % (FINISH, OWN) + LINE % (ABOVE, OWN) + END, 1, [MISSED, MISSED]),
+    "both are rejected": (LINE % (ID, OWN) + LINE % (FINISH, OWN) + END, 1, [REJECTED, REJECTED]),
+    "one is rejected as it calls another": (LINE % (ID, CALLEE) + LINE % (FINISH, OWN) + END, 1, [MISSED, REJECTED]),
+    "one is proved": (LINE % (ID, "proved") + LINE % (FINISH, OWN) + END, 1, [MISSED, REJECTED]),
+    "one is not named": (LINE % (FINISH, OWN) + END, 1, [MISSED, REJECTED]),
+    "a caller is rejected as it calls them": (LINE % (ID, OWN) + LINE % (FINISH, OWN) + LINE % (ABOVE, CALLEE) + END, 1, [REJECTED, REJECTED]),
+    "a function that is not changed is rejected": (LINE % (ID, OWN) + LINE % (FINISH, OWN) + LINE % (ABOVE, OWN) + END, 1, [MISSED, MISSED]),
     "the words are new": (LINE % (ID, "refuted at x") + LINE % (FINISH, "refuted") + END, 1, [MISSED, MISSED]),
     "the status is another": (LINE % (ID, OWN) + LINE % (FINISH, OWN) + END, 3, [MISSED, MISSED]),
     "the last line lacks": (LINE % (ID, OWN) + LINE % (FINISH, OWN), 1, [MISSED, MISSED]),
@@ -120,7 +120,7 @@ def try_made_up():
     for name, alone, wanted in (
         ("it is killed", ("", -9), UNTRIED),
         ("it gives no verdict", ("rattle: no verdict\n", 3), UNTRIED),
-        ("it refuses in new words", ("a word\nlogic=not-proved x\n", 1), REFUSED),
+        ("it rejects in new words", ("a word\nlogic=not-proved x\n", 1), REJECTED),
         ("it stops early", ("error[E0308]: x\n", 1), BAD),
     ):
         yield "where alone " + name, made_up_words(both[:1], MadeUp("", 1, alone)), [wanted]

@@ -1,10 +1,10 @@
 #!/usr/bin/env python3
 # SPDX-License-Identifier: Apache-2.0
-"""Runs both programs in bin/, hll_merge and hll_estimator_fields, on texts that they accept and refuse, and hll_merge on each plan of the
+"""Runs both programs in bin/, hll_merge and hll_estimator_fields, on texts that they accept and reject, and hll_merge on each plan of the
 worked rows and the walks (tests/rows.py). Compares what they print on either stream and their status. Prints 'N passed, M
 failed' at the end.
 
-A refused run prints one line on standard error and nothing for the refused line on standard output, and ends with 1. The same
+A run with an error prints one line on standard error and nothing for the rejected line on standard output, and ends with 1. The same
 runs are made with the programs for 64-bit ARM, in an emulator, where a cross compiler and qemu are here, but for those of rows.
 """
 import os

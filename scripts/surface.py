@@ -10,7 +10,7 @@ that clauses of any crate name, or that such definitions name in turn. So a name
 definition that changes is seen in one diff. Two lists are kept by hand, and every line of them is tried:
 
     surface/lists/inner.txt     modules and names that are public for crates of this repository alone, and these crates
-    surface/lists/memory.txt    each name that may answer want of memory, and the test that refuses it memory; `none` and why
+    surface/lists/memory.txt    each name that can fail with Memory, and the test that makes its allocations fail; `none` and why
 """
 import difflib
 import pathlib
@@ -431,18 +431,18 @@ def faults_of(names, inner, memory):
                 yield "inner.txt says that %s is for %s, which does not name it" % (name, user)
     wanted = {name.path for name in names if name.may_lack_memory()}
     for name in sorted(wanted - set(memory)):
-        yield "memory.txt lacks %s, which may answer want of memory" % name
+        yield "memory.txt lacks %s, which can fail with Memory" % name
     for name in sorted(set(memory) - wanted):
-        yield "memory.txt names %s, which is not public or answers no want of memory" % name
+        yield "memory.txt names %s, which is not public or never fails with Memory" % name
     for name, test in memory.items():
         test = test.split(", ")[0]
         if test == "none":
             continue
         if "/" in test:
             if not (ROOT / test).exists():
-                yield "memory.txt says that %s is refused memory by %s, which is not there" % (name, test)
+                yield "memory.txt says that allocations of %s fail in %s, which is not there" % (name, test)
         elif test not in known:
-            yield "memory.txt says that %s is refused memory by %s, which is no test" % (name, test)
+            yield "memory.txt says that allocations of %s fail in %s, which is not a test" % (name, test)
 
 
 # ---- the texts
@@ -458,7 +458,7 @@ def text_of(crate, names, cited, specs, inner, memory):
         lines += ["        " + clause for clause in name.clauses]
         lines += ["    inner: for " + users for outer, users in inner.items() if is_in(name.path, outer)]
         if name.path in memory:
-            lines.append("    memory refused by: " + memory[name.path])
+            lines.append("    failed allocations are tested by: " + memory[name.path])
     shown = sorted((file, name) for owner, file, name in cited if owner == crate)
     if shown:
         lines += ["", "Definitions that clauses name, or that these name."]

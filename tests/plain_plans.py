@@ -1,9 +1,9 @@
 #!/usr/bin/env python3
 # SPDX-License-Identifier: Apache-2.0
 """Answers plans by a plain model that follows docs/PLAN.md, docs/MODEL.md and docs/FORMAT.md alone, and shares no code with
-the library; each row of a text of rows has to have that answer (docs/PLAN.md, "Rows").
+the library; each row of a text of rows has to have that result (docs/PLAN.md, "Rows").
 
-Call it with the files of rows; without one it takes the worked rows and the walks. It prints each row whose answer is another,
+Call it with the files of rows; without one it takes the test vectors and the walks. It prints each row whose result is another,
 and 'N passed, M failed' at the end, and ends with status 1 if there is one.
 """
 import pathlib
@@ -21,7 +21,7 @@ LIST_SIZE, LEAST_SET_SIZE = 3, 5
 
 
 class Fault(Exception):
-    """A line is refused, with these words."""
+    """A line is rejected, with these words."""
 
 
 # ---- sketches
@@ -254,7 +254,7 @@ def main():
     rows = [(plan, answer) for path in paths for plan, _, answer in rows_in(path)]
     differing = [(plan, answer) for plan, answer in rows if answer_of(plan) != answer]
     for plan, answer in differing:
-        print(f"{plan.decode(errors='replace')}\n{answer}, answered plainly {answer_of(plan)}\n")
+        print(f"{plan.decode(errors='replace')}\n{answer}, plainly {answer_of(plan)}\n")
     print(f"{len(rows) - len(differing)} passed, {len(differing)} failed")
     sys.exit(1 if differing or not rows else 0)
 

@@ -1,8 +1,8 @@
 # SPDX-License-Identifier: Apache-2.0
-"""A plain reader of images that follows docs/FORMAT.md alone; its answers are compared with those of the library.
+"""A plain reader of images that follows docs/FORMAT.md alone; its results are compared with those of the library.
 
 Run `mutants FILE` in bench/rust first, then this script with the same file. It prints for each kind of image how many
-were answered how, and ends with status 1 if an answer differs.
+had which result, and ends with status 1 if a result differs.
 """
 import collections
 import struct
@@ -16,7 +16,7 @@ EMPTY, COMPACT, OUT_OF_ORDER = 4, 8, 16
 
 
 class Refused(Exception):
-    """An image is refused, for the reason of this word."""
+    """An image is rejected, for the reason of this word."""
 
 
 def check(passes, word):
@@ -163,7 +163,7 @@ def main():
         kind = f"{['list', 'set', 'registers'][number // 3]} of {4 + number % 3 * 2} bits"
         answers = ", ".join(f"{count} {word}" for word, count in words.most_common())
         print(f"{kind}: {sum(words.values())} images, {answers}")
-    print(f"{differing} answers differ")
+    print(f"{differing} results differ")
     sys.exit(1 if differing or not counts else 0)
 
 

@@ -7,7 +7,7 @@ unions shuffled, repeated, and grouped under further unions of the same bound an
 as their images. Both plans have to print the same bytes.
 
 It also merges many small images: lists and sets whose coupons are random, or all on one path of a table, after a set,
-registers or nothing, in one union or in several. The program has to print what the plain model of plans answers
+registers or nothing, in one union or in several. The program has to print what the plain model of plans returns
 (tests/plain_plans.py).
 
 The random numbers are the same at each run. Call it with the number of pairs, and with the program's path; without one it
@@ -201,14 +201,14 @@ def plan_of_small_images(numbers):
 
 
 def wrong_answer(task):
-    """The plan of small images, where the program doesn't print what the plain model answers."""
+    """The plan of small images, if the program doesn't print what the plain model returns."""
     program, seed = task
     text = plan_of_small_images(random.Random(seed)).encode("ascii")
     done = subprocess.run([program], input=text, capture_output=True)
     answer = answer_of(text)
     if done.returncode == 0 and done.stdout.decode("ascii").strip() == answer:
         return None
-    return text.decode("ascii"), "%r\n%r, answered plainly %s" % (done.stdout[:200], done.stderr, answer[:200])
+    return text.decode("ascii"), "%r\n%r, plainly %s" % (done.stdout[:200], done.stderr, answer[:200])
 
 
 def compared(compare, program, count, chunk):

@@ -2,7 +2,7 @@
 # SPDX-License-Identifier: Apache-2.0
 """Refuses each request for memory of the program in turn, and fails each of its reads and writes, over all row plans.
 
-The plans, with what they print or the line of their refusal, are the worked rows and the walks.
+The plans, with what they print or the line of their error, are the test vectors and the walks.
 A request that is refused has to end in `line .. memory` with nothing on standard output and status 1, or in the answer, where
 the program goes on without that memory: with a long search instead of a copy in order (docs/ARCHITECTURE.md, "Tables"). A read
 has to end in `read`, or in the fault of a line that ended before; a write in `write`, with a front of the answer. Where each call moves one byte,

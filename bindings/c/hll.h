@@ -248,7 +248,7 @@ hll_status hll_image_add_coupon(const uint8_t *image, size_t len, uint32_t slot,
  * the smallest lg_k of the images in registers that are not all 0, if that is smaller. A width of 0 is HLL_ARGUMENT, here and
  * in the unions below.
  * Returns HLL_OK, 1 to 11 (*failed is 0 for the left image, 1 for the right), HLL_ARGUMENT, HLL_MEMORY or HLL_BUFFER.
- * Allocates the memory of reading both, 2^lg_k bytes, and the image. */
+ * Allocates the memory of reading one image at a time, 2^lg_k bytes, and the image. */
 hll_status hll_image_merge(unsigned lg_max_k, unsigned width, const uint8_t *left, size_t left_len,
                            const uint8_t *right, size_t right_len, uint8_t *out, size_t room, size_t *size,
                            size_t *failed);
