@@ -1,5 +1,5 @@
 // SPDX-License-Identifier: Apache-2.0
-//! 4-bit registers: nibbles above a minimum, and a map of exceptions (docs/MODEL.md, "Registers of four bits").
+//! 4-bit registers: nibbles above a minimum, and a map of exceptions (docs/MODEL.md, "4-bit registers").
 ghost use Rattle.std.specs.Prelude.{◌≡◌, ◌≢◌, ◌+◌, ◌^◌, ◌<◌, ◌≤◌, ◌==◌, ◌⊎◌, take, nat_eq, slice_index, IfOk, IfErr, OnOk, OnErr, None};
 ghost use Rattle.std.specs.List.{list_all};
 ghost use Rattle.std.specs.Cmp.Lexicographic.{pointwise};

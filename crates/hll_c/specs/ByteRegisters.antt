@@ -1,5 +1,5 @@
 -- SPDX-License-Identifier: Apache-2.0
--- What the calls do with caller-owned registers (docs/MODEL.md, "Registers of the caller").
+-- What the calls do with caller-owned registers (docs/MODEL.md, "Caller-owned registers").
 use Rattle.std.specs.Prelude.{◌≡◌, ℕ, ◌^◌, ◌≤◌, List, ◌++◌, length, drop, map, Some, None, All}
 use Rattle.hll_base.specs.Join.{join}
 use Rattle.hll_base.specs.Reason.{number_of}

@@ -6,7 +6,8 @@ use Rattle.hll_coupons.specs.Pair.{Pairs}
 use Rattle.hll_coupons.specs.declared.container.Insertion.{Insertion}
 use Rattle.hll_coupons.specs.declared.container.Insertion.TheVariants.{Added, Held, Refused}
 
--- `Added` if the table lacked the coupon, `Held` if it had it, and `Refused` if it would then have more coupons than the limit
+-- `Refused` if the table would then have more coupons than the limit, also if it has the coupon already and too many others;
+-- otherwise `Added` if it lacked the coupon, and `Held` if it had it
 abbrev pub IsInsertion : Pairs → ℕ → ℕ → Insertion → Type 0
 IsInsertion S c most Added = (contains S c ≡ false) × (len (insert S c) ≤ most)
 IsInsertion S c most Held = (contains S c ≡ true) × (len (insert S c) ≤ most)

@@ -1,7 +1,7 @@
 // SPDX-License-Identifier: Apache-2.0
 //! Coupons of many sketches, collected before they are put into a table together. So a union of many small sketches
-//! costs one sort of their coupons, however long the searches for their buckets would be (docs/OPERATING.md, "Images
-//! from others").
+//! costs one sort of their coupons, however long the searches for their buckets would be (docs/OPERATING.md, "Unions of
+//! many images").
 ghost use Rattle.std.specs.Prelude.{◌≡◌, ℕ, ◌+◌, ◌*◌, ◌^◌, ◌<◌, ◌≤◌, ◌++◌, [], ◌∷◌, length, take, vec_len, IfOk, IfErr, OnOk, OnErr, All};
 ghost use Rattle.hll_base.specs.declared.error.Reason.TheVariants.{Memory};
 ghost use Rattle.hll_coupons.specs.Coupons.{IsAscending};

@@ -116,8 +116,8 @@ impl<A: Allocator> HashSet<A> {
         Some(true)
     }
 
-    /// Inserts a coupon, unless the set has it already, or would then have more than `most` coupons. One search;
-    /// allocates nothing.
+    /// Inserts a coupon, unless the set has it already, or would then have more than `most` coupons. A set that has more
+    /// than `most` coupons returns `Refused` even for a coupon that it has. One search; allocates nothing.
     ///
     /// Its value is at least 1, and `most` is at most the number of buckets.
     pub fn update_within(&mut self, coupon: Coupon, most: usize) -> Insertion

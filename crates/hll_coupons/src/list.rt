@@ -121,7 +121,8 @@ impl<A: Allocator> List<A> {
     }
 
     /// Puts a coupon into the first empty bucket, unless the list has it already, or would then have more than `most`
-    /// coupons. Looks at each coupon until it is found, and allocates nothing.
+    /// coupons. A list that has more than `most` coupons returns `Refused` even for a coupon that it has. Looks at each
+    /// coupon until it is found, and allocates nothing.
     ///
     /// Its value is at least 1, and `most` is at most the number of buckets.
     pub fn update_within(&mut self, coupon: Coupon, most: usize) -> Insertion

@@ -68,7 +68,7 @@ fn hex_lines(rt: HostRuntime) -> Result<(), Fail> {
     Ok(())
 }
 
-/// All bytes are written if the stream has room, else as many as there is room for. An empty piece is passed on, and it is not
+/// All bytes are written if the stream has room, and otherwise the bytes that fit. An empty piece is passed on, and it is not
 /// a failure if nothing of it is accepted.
 #[test]
 fn watched_writes(rt: HostRuntime) -> Result<(), Fail> {

@@ -63,7 +63,7 @@ pub(crate) fn bytes_of_buckets<A: Allocator>(map: &Exceptions<A>) -> usize
     }
 }
 
-/// Returns whether the map has so many buckets that going through them for only a few values would be expensive.
+/// Returns whether a pass over the buckets of the map would be expensive if only a few values are read.
 pub(crate) fn has_many_buckets<A: Allocator>(map: &Exceptions<A>) -> bool {
     match map {
         Some(map) => map.estimated_size() > 1 << 13,

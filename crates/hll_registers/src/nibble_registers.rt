@@ -1,5 +1,5 @@
 // SPDX-License-Identifier: Apache-2.0
-//! Registers as nibbles above the least register, with a map of exceptions (docs/MODEL.md, "Registers of four bits").
+//! Registers as nibbles above the least register, with a map of exceptions (docs/MODEL.md, "4-bit registers").
 ghost use Rattle.std.specs.Prelude.{◌≡◌, ◌≢◌, ◌+◌, ◌*◌, ◌^◌, ◌<◌, ◌≤◌, ◌==◌, ◌%◌, ◌++◌, ◌⊎◌, ℕ, take, drop, min, length, count_by, nat_eq, slice_index, slice_set, IfOk, IfErr, OnOk, OnErr, Some, None};
 ghost use Rattle.std.specs.Cmp.Lexicographic.{pointwise};
 ghost use Rattle.std.specs.FinSet.{len};

@@ -1,6 +1,6 @@
 -- SPDX-License-Identifier: Apache-2.0
 -- The registers of an image, borrowed from its bytes, or those that its coupons fold to
--- (docs/MODEL.md, "Registers of the caller").
+-- (docs/MODEL.md, "Caller-owned registers").
 use Rattle.std.specs.Prelude.{◌≡◌, ◌≢◌, ℕ, ◌^◌, ◌==◌, if◌then◌else◌, List, length, Option, Some, None}
 use Rattle.hll_base.specs.declared.hll_type.HllType.{HllType}
 use Rattle.hll_base.specs.declared.hll_type.HllType.TheVariants.{Hll4, Hll6, Hll8}

@@ -1,5 +1,5 @@
 -- SPDX-License-Identifier: Apache-2.0
--- Caller-owned registers, one byte each (docs/MODEL.md, "Registers of the caller").
+-- Caller-owned registers, one byte each (docs/MODEL.md, "Caller-owned registers").
 use Rattle.std.specs.Prelude.{◌≡◌, ℕ, ◌≤◌, ◌<◌, true, false, List, Option, Some, None}
 use Rattle.hll_base.specs.Join.{join}
 use Rattle.hll_base.specs.declared.hll_type.HllType.{HllType}

@@ -1,5 +1,5 @@
 // SPDX-License-Identifier: Apache-2.0
-//! Caller-owned registers: 2^`lg_k` bytes, one for each register (docs/MODEL.md, "Registers of the caller"). Nothing of them is
+//! Caller-owned registers: 2^`lg_k` bytes, one for each register (docs/MODEL.md, "Caller-owned registers"). Nothing of them is
 //! kept here.
 ghost use Rattle.std.specs.Prelude.{◌≡◌, ◌^◌, ◌<◌, ◌≤◌, ◌==◌, ◌++◌, length, drop, IfOk, IfErr, OnErr};
 ghost use Rattle.std.specs.List.{list_all};

@@ -1,7 +1,8 @@
 // SPDX-License-Identifier: Apache-2.0
-//! A union of many sketches. While the union has coupons, the coupons of more sketches wait, and are added together once they
-//! are as many as the union's own: adding T and then U is adding both (law `add_of_add`). So a union of many small sketches
-//! takes one sort of their coupons, however long the searches in the table are (docs/OPERATING.md, "Images from others").
+//! A union of many sketches. While the union has coupons, the coupons of more sketches wait, and are added together once
+//! their number reaches that of the union's own: adding T and then U is adding both (law `add_of_add`). So a union of many
+//! small sketches takes one sort of their coupons, however long the searches in the table are (docs/OPERATING.md, "Unions of
+//! many images").
 ghost use Rattle.std.specs.Prelude.{◌≡◌, ◌⊎◌, ◌^◌, ◌<◌, true, false, All, map, length, IfOk, IfErr, OnOk, OnErr};
 ghost use Rattle.hll_base.specs.declared.error.Reason.TheVariants.{Memory};
 ghost use Rattle.hll_base.specs.declared.error.Reason.TheVariants as reasons;
@@ -209,7 +210,7 @@ impl<A: Allocator + Clone> UnionBuilder<A> {
         self.update(&sketch)
     }
 
-    /// Adds the coupons that wait to the union, if they are as many as the union's own, and at least `LEAST_WAITING`.
+    /// Adds the waiting coupons to the union, if they number at least `LEAST_WAITING` and at least the union's own coupons.
     ///
     /// Fails with `Memory`.
     fn settle_if_many(&mut self) -> Result<(), Error>

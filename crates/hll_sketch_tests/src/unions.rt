@@ -312,7 +312,7 @@ fn raw_coupons_merge_alike(alloc: Global, count: u32, image: &[u8]) -> Result<bo
 
 /// Updatable images are merged as the sketches that they are read as, into nothing, a list, a set and registers: lists, and
 /// sets of up to 128 coupons and of more, as they are, cut short, and with bytes and raw coupons changed, so that coupons
-/// descend, are repeated, have the value 0, or are not as many as the count says.
+/// descend, are repeated, have the value 0, or don't agree with the count.
 #[test]
 fn updatable_images(rt: HostRuntime) -> Result<(), Fail> {
     for count in [0, 5, 30, 300] {
