@@ -61,11 +61,11 @@ def _with_width(parser: argparse.ArgumentParser, **more: Any) -> None:
 
 
 def _with_json(parser: argparse.ArgumentParser) -> None:
-    parser.add_argument("--json", action="store_true", help="print what was done as one JSON document")
+    parser.add_argument("--json", action="store_true", help="print the result as one JSON document")
 
 
 def _with_force(parser: argparse.ArgumentParser) -> None:
-    help_ = "replace a file that is read-only or another user's; it keeps its mode and owner"
+    help_ = "replace a file that is read-only or belongs to another user; it keeps its mode and owner"
     parser.add_argument("--force", action="store_true", help=help_)
 
 
@@ -77,7 +77,7 @@ def _with_output(parser: argparse.ArgumentParser, **more: Any) -> None:
 
 
 def _with_plain(parser: argparse.ArgumentParser) -> None:
-    help_ = "set the fields from which other libraries estimate to zero, as hll_merge does"
+    help_ = "set the fields that other libraries estimate from to zero, as hll_merge does"
     parser.add_argument("--plain", action="store_true", help=help_)
 
 
@@ -86,11 +86,11 @@ def _with_files(parser: argparse.ArgumentParser, nargs: str, what: str) -> None:
 
 
 def _with_folders(parser: argparse.ArgumentParser) -> None:
-    what = "a file, a folder (all files below it, but names that begin with a dot), or -"
+    what = "a file, a folder (all files in it and below, except names that begin with a dot), or -"
     _with_files(parser, "*", what)
     help_ = "read names of more files from LIST, one a line; - is standard input"
     parser.add_argument("--files-from", metavar="LIST", help=help_)
-    help_ = "names in LIST are ended by NUL, as find -print0 does"
+    help_ = "names in LIST end with NUL, as find -print0 writes them"
     parser.add_argument("-0", "--null", action="store_true", help=help_)
 
 
@@ -106,10 +106,10 @@ def _with_deviations(
 def _merge(parser: argparse.ArgumentParser) -> None:
     _with_folders(parser)
     _with_output(parser, required=True)
-    _with_lg_k(parser, "merge files of different lg_k, at this one or a smaller one; 4 to 21")
+    _with_lg_k(parser, "merge files of different lg_k, at this lg_k or a smaller one; 4 to 21")
     _with_width(parser)
-    parser.add_argument("--jobs", type=_jobs, metavar="N", help="processes (one a processor)")
-    help_ = "leave out files that are no images or can't be read, name them, and go on"
+    parser.add_argument("--jobs", type=_jobs, metavar="N", help="the number of processes (one per processor)")
+    help_ = "leave out files that are not images or can't be read, print their names, and go on"
     parser.add_argument("--skip-bad", action="store_true", help=help_)
     _with_plain(parser)
 
@@ -150,7 +150,7 @@ def _diff(parser: argparse.ArgumentParser) -> None:
     parser.add_argument("right", metavar="B", help="a file, or -")
     help_ = "the number of differing slots to show (10)"
     parser.add_argument("--most", type=_most, metavar="N", default=10, help=help_)
-    parser.add_argument("-q", "--quiet", action="store_true", help="print nothing; only the status says")
+    parser.add_argument("-q", "--quiet", action="store_true", help="print nothing; the exit status is the result")
     _with_json(parser)
 
 
@@ -159,14 +159,14 @@ def _plot(parser: argparse.ArgumentParser) -> None:
     help_ = "the picture to write; - is standard output"
     parser.add_argument("-o", "--output", metavar="OUT", required=True, help=help_)
     _with_force(parser)
-    parser.add_argument("--title", help="what stands above (the name of the file)")
+    parser.add_argument("--title", help="the title of the picture (the name of the file)")
 
 
 def _new(parser: argparse.ArgumentParser) -> None:
     parser.add_argument("output", metavar="FILE", help="the file to write, or -")
-    _with_lg_k(parser, "the logarithm of the number of registers, 4 to 21 (12)", default=12)
+    _with_lg_k(parser, "the base-2 logarithm of the number of registers, 4 to 21 (12)", default=12)
     _with_width(parser, default=8)
-    parser.add_argument("--force", action="store_true", help="replace a file that is there")
+    parser.add_argument("--force", action="store_true", help="replace an existing file")
     _with_json(parser)
 
 
@@ -182,7 +182,7 @@ _COMMANDS = (
     ("merge", _merge, "merge any number of files", "hll merge days -o year.hll"),
     ("info", _info, "show what the images of files say", "hll info year.hll"),
     ("estimate", _estimate, "print the estimated number of distinct values", "hll estimate *.hll"),
-    ("check", _check, "name the files that are no images, and why", "hll check days"),
+    ("check", _check, "print the files that are not images, and why", "hll check days"),
     ("fold", _fold, "make a sketch smaller", "hll fold a.hll --lg-k 10 -o b.hll"),
     ("convert", _convert, "change the width of a sketch", "hll convert a.hll --width 4 -o b.hll"),
     ("diff", _diff, "say whether two sketches agree, and where they differ", "hll diff a.hll b.hll"),
@@ -191,15 +191,16 @@ _COMMANDS = (
     ("add", _add, "add lines of standard input, each a value", "cut -f2 log | hll add day.hll"),
 )
 _MORE = {
-    "merge": "Each file that is rejected is named; then nothing is written, unless --skip-bad is given. "
-    "Files of different lg_k are merged with --lg-k alone. The width is that of the files, or 8.",
-    "estimate": "The name of the file follows the numbers where there are several files.",
-    "check": "A file that is a sketch is passed over in silence.",
+    "merge": "Each rejected file is named, and then nothing is written, unless --skip-bad is given. "
+    "Files of different lg_k are merged only with --lg-k. The width is that of the files, or 8 if "
+    "they differ.",
+    "estimate": "With several files, the name of the file follows the numbers.",
+    "check": "Nothing is printed for a file that is a sketch.",
     "fold": "The result is the sketch that the same values make with that lg_k.",
-    "diff": "Status 0: they agree, once folded to the smaller lg_k. 1: they differ. 2: trouble.",
-    "new": "Values are counted into it by `hll add`.",
-    "add": "A line counts as a text: its bytes without the LF, but with a CR. An empty line is a "
-    "text too. So 7 is not the integer 7, unless --as int is given.",
+    "diff": "Exit status: 0 if they agree, once folded to the smaller lg_k; 1 if they differ; 2 for an error.",
+    "new": "Add values to it with `hll add`.",
+    "add": "A line counts as a text: its bytes without the LF, including a CR. An empty line is a "
+    "text too. So 7 is a text and not the integer 7, unless --as int is given.",
 }
 
 
