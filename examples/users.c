@@ -11,7 +11,7 @@
 
 struct counter {
     char key[64];
-    void *state;        /* a sketch in so many bytes */
+    void *state;        /* the bytes of a sketch */
     size_t room;
 };
 
@@ -29,7 +29,7 @@ static void print(const void *node, VISIT visit, int depth)
         printf("%.0f %s\n", found.estimate, counter->key);
 }
 
-/* The counter of a key in the tree, a new one where there is none; NULL without memory. */
+/* Returns the counter of a key in the tree, which is new if there is none, or NULL if an allocation fails. */
 static struct counter *counter_of(void **tree, const struct counter *wanted)
 {
     struct counter **found = tfind(wanted, tree, by_key), *made = NULL;

@@ -41,7 +41,7 @@ BUILT = {"out", "build", "dist", "target", "__pycache__"}
 # A comment, which is skipped, or a literal. A single quote begins a character, or a lifetime of Rust.
 TOKENS = re.compile(r'/\*.*?\*/|//[^\n]*|\'(?:\\.|[^\'\\\n])\'|"((?:\\.|[^"\\])*)"', re.S)
 BETWEEN = re.compile(r'"\s+"')
-COMMENTS = re.compile(r'"(?:\\.|[^"\\])*"|(/\*.*?\*/)', re.S)
+COMMENTS = re.compile(r'"(?:\\.|[^"\\])*"|(/\*.*?\*/|//[^\n]*)', re.S)
 DOC_LINE = re.compile(r"^\s*//[/!] ?(.*)$", re.M)
 CODE = re.compile(r"^```.*?^```$|^    .*$|`[^`\n]*`|\]\([^)\n]*\)", re.M | re.S)
 
@@ -105,7 +105,7 @@ def documentation(language):
         text = path.read_text("utf-8")
         if path.suffix == ".py":
             parts = ((line, part) for line, part, is_documentation in texts_of_python(text) if is_documentation)
-        elif path.suffix == ".h":
+        elif path.suffix in (".h", ".hpp"):
             parts = ((line_at(text, found.start(1)), found[1]) for found in COMMENTS.finditer(text) if found[1])
         else:
             parts = ((line_at(text, found.start(1)), found[1]) for found in DOC_LINE.finditer(text))

@@ -1,6 +1,6 @@
 /* SPDX-License-Identifier: Apache-2.0 */
-/* Times the calls at lg_k 12, and prints two tables: of this thread's processor time. The calls run in turn, so that a
- * change of load changes all alike; of times, and of their ratios in a turn, the median of the turns is told. */
+/* Times the calls at lg_k 12, and prints two tables, of this thread's processor time. The calls run in turn, so a change of
+ * load changes all of them alike. It prints the medians of the times, and of their ratios in a turn. */
 #define _POSIX_C_SOURCE 199309L
 #include "hll.h"
 
@@ -42,7 +42,7 @@ static void run_parts(void)
     need(hll_images_unionv(LG_K, width, parts, IMAGES, out, sizeof out, &size, &failed));
 }
 
-/* Each image into registers of the caller, and their image at the end. */
+/* Merges each image into caller-owned registers, and writes their image at the end. */
 static void run_join(void)
 {
     uint8_t lg_k;
@@ -129,7 +129,7 @@ static double median(const double *of)
     return sorted[TURNS / 2];
 }
 
-/* The nanoseconds of a call, from so many. */
+/* Returns the nanoseconds of one call, measured over n calls. */
 static double timed(void (*call)(void), int rounds)
 {
     double start = now();
@@ -149,14 +149,14 @@ static const struct {
 } rows[ROWS] = {
     {"union of 1,000 images, each", run_union, 2},
     {"union of 1,000 parts, each", run_parts, 2},
-    {"join into registers of the caller, each", run_join, 2},
+    {"join into caller-owned registers, each", run_join, 2},
     {"each byte read once, an image", run_bytes, 2},
     {"merge of two", run_merge, 400},
     {"read (check)", run_read, 800},
     {"read and write (convert)", run_read_write, 400},
     {"add 1,000 values", run_add, 40},
     {"add none", run_add_none, 400},
-    {"add 1,000 values to registers of the caller", run_add_registers, 40},
+    {"add 1,000 values to caller-owned registers", run_add_registers, 40},
     {"hash 1,000 values (coupons)", run_hash, 40},
     {"estimate", run_estimate, 100},
     {"join / union", NULL, 0},
@@ -164,7 +164,7 @@ static const struct {
     {"merge / (two reads and a write)", NULL, 0},
     {"add / hash", NULL, 0},
     {"(add - add none) / hash", NULL, 0},
-    {"add to registers of the caller / hash", NULL, 0},
+    {"add to caller-owned registers / hash", NULL, 0},
 };
 
 /* Times all calls in each turn; the medians go into a column. */
@@ -201,7 +201,7 @@ static void make_values(uint64_t from)
     }
 }
 
-/* An image of so many thousand values. */
+/* The image of some thousand values. */
 static size_t make_image(uint8_t *to, uint64_t from, int thousands)
 {
     uint8_t before[HLL_IMAGE_MAX(LG_K)];
@@ -295,7 +295,7 @@ static void run_sets(void)
     need(hll_images_union(LG_K, 8, joined, ends[sets_of_union - 1], ends, sets_of_union, out, sizeof out, &size, &failed));
 }
 
-/* The same into registers of the caller. */
+/* The same values, added to caller-owned registers. */
 static void run_set_joins(void)
 {
     uint8_t lg_k;
@@ -339,7 +339,7 @@ static void print_sets(void)
     printf("\n| sets of 20, each, in ns | ascending | in places | updatable |\n|---|---|---|---|\n");
     printf("| union into registers | %.0f | %.0f | %.0f |\n", united[0], united[1], united[2]);
     printf("| of the ascending one | | %.2f | %.2f |\n", united[1] / united[0], united[2] / united[0]);
-    printf("| join into registers of the caller | %.0f | %.0f | %.0f |\n", into_registers[0], into_registers[1],
+    printf("| join into caller-owned registers | %.0f | %.0f | %.0f |\n", into_registers[0], into_registers[1],
            into_registers[2]);
 }
 

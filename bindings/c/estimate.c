@@ -1,15 +1,15 @@
 /* SPDX-License-Identifier: Apache-2.0 */
 /*
- * Bounds of estimates, estimates from coupons, and the version. Plain C, not proved; docs/NUMBERS.md says where the formulas
- * come from, and how far they are off. The estimate from registers comes from a proved call.
+ * Bounds of estimates, estimates from coupons, and the version. This is plain C, not proved. docs/NUMBERS.md says where the
+ * formulas come from, and how accurate they are. The estimate from registers comes from a proved call.
  */
 #include "hll.h"
 
-/* What a proved call tells. */
+/* What a proved call returns. */
 struct estimate {
-    uint64_t bits;      /* from registers, the estimate as the bits of a double; from coupons 0 */
-    uint64_t registers; /* how many there are; from coupons 0 */
-    uint64_t seen;      /* how many registers are above 0, or how many coupons there are */
+    uint64_t bits;      /* for registers, the estimate as the bits of a double; for coupons 0 */
+    uint64_t registers; /* the number of registers; for coupons 0 */
+    uint64_t seen;      /* the number of registers above 0, or the number of coupons */
 };
 
 hll_status proved_hll_estimate(const uint8_t *image, size_t len, struct estimate *estimate);
@@ -20,19 +20,20 @@ hll_status proved_hll_histogram_estimate(const hll_histogram *histogram, struct 
 /* The relative variance of one register: 3 ln 2 - 1. */
 #define REGISTER_VARIANCE 1.07944154167983593
 
-/* By the root of the number of registers this is the relative standard error of a HIP estimate: the root of ln 2. */
+/* Divided by the square root of the number of registers, this is the relative standard error of a HIP estimate: the square
+ * root of ln 2. */
 #define HIP_ERROR 0.83255461115769776
 
-/* The greatest finite number. */
+/* The greatest finite double. */
 #define GREATEST 1.7976931348623157e308
 
-/* Of each coupon a slot of 2^26 is one part in so many. */
+/* The number of slots: each of 2^26 slots has the same probability. */
 #define SLOTS 67108864.0
 
-/* No more coupons are estimated from: one for each slot. */
+/* The most coupons that are estimated from: one for each slot. */
 #define MOST_COUPONS ((uint64_t)1 << 26)
 
-/* The square root of a number from 0 to 1, by Newton's steps from above. */
+/* Returns the square root of a number from 0 to 1, by Newton's method from above. */
 static double square_root(double x)
 {
     double root = 1.0, before;
@@ -47,8 +48,8 @@ static double square_root(double x)
 
 /* ---- from registers ---- */
 
-/* The relative standard error of an estimate from so many registers: sqrt(0.5 / registers) for few values, 1.04 /
- * sqrt(registers) for many, and a little more where registers are few. Between, it is fitted to what was measured. */
+/* Returns the relative standard error of an estimate from n registers: sqrt(0.5 / n) for few values, 1.04 / sqrt(n) for
+ * many, and a little more if registers are few. Between, it is fitted to measurements. */
 static double error_of_registers(double estimate, double registers)
 {
     double few = 1.0 / (1.0 + estimate / registers / 16.0);
@@ -59,8 +60,8 @@ static double error_of_registers(double estimate, double registers)
 
 /* ---- from coupons ---- */
 
-/* How many distinct coupons so many values are expected to have. Coupons of value v come with probability 2^-v at each
- * slot, so j values share a coupon with probability 1 / ((2^j - 1) * SLOTS^(j - 1)). */
+/* Returns the expected number of distinct coupons of n values. Coupons of value v have probability 2^-v at each slot, so j
+ * values share a coupon with probability 1 / ((2^j - 1) * SLOTS^(j - 1)). */
 static double expected_coupons(double values)
 {
     double sum = values, term = values, power = 2.0;
@@ -73,7 +74,7 @@ static double expected_coupons(double values)
     return sum;
 }
 
-/* The number of values that are expected to have so many coupons. */
+/* Returns the number of values that are expected to have n coupons. */
 static double estimate_of_coupons(double coupons)
 {
     double values = coupons;
@@ -83,19 +84,19 @@ static double estimate_of_coupons(double coupons)
     return values;
 }
 
-/* The relative standard error of that: as many values are lost as pairs share a coupon, and their number scatters by
- * its square root. */
+/* Returns its relative standard error: the number of lost values is the number of pairs that share a coupon, whose standard
+ * deviation is its square root. */
 static double error_of_coupons(double values)
 {
     return values > 1.0 ? square_root((values - 1.0) / values / 6.0 / SLOTS) : 0.0;
 }
 
-/* Where more values than this share a coupon with another one, their number is taken as normally distributed. No list or
- * set has so many coupons. */
+/* If more values than this share a coupon with another value, their number is treated as normally distributed. No list or
+ * set has that many coupons. */
 #define MANY_LOST 300.0
 
-/* The relative standard error of an estimate where many values are lost: their number scatters by at most its square
- * root, and a coupon more stands for more than one value. */
+/* Returns the relative standard error of an estimate if many values are lost: the standard deviation of their number is at
+ * most its square root, and one more coupon stands for more than one value. */
 static double error_of_many_coupons(double values)
 {
     double coupons = expected_coupons(values);
@@ -106,11 +107,11 @@ static double error_of_many_coupons(double values)
 
 #define DEVIATIONS 3
 
-/* How often what is normally distributed is more than 1, 2 or 3 standard deviations above its mean. */
+/* The probability that a normally distributed number is more than 1, 2 or 3 standard deviations above its mean. */
 static const double tails[DEVIATIONS] = {0.15865525393145705, 0.022750131948179207, 0.0013498980316300945};
 
-/* An estimate of values of which at least some were seen for certain. Its bounds are the numbers of which it is so many
- * deviations above and below. */
+/* Returns an estimate with its bounds. At least `least` values were certainly counted. The bounds are the numbers that the
+ * estimate is 1, 2 or 3 standard deviations above and below. */
 static hll_estimation with_bounds(double estimate, double error, double least)
 {
     hll_estimation found;
@@ -125,12 +126,12 @@ static hll_estimation with_bounds(double estimate, double error, double least)
     return found;
 }
 
-/* How often a number is at most so many, and how often at least. */
+/* The probability that a number is at most, and at least, a given number. */
 struct shares {
     double at_most, at_least;
 };
 
-/* That of Poisson's distribution: the number is i with a probability in the ratio of mean^i / i!. */
+/* Returns that of the Poisson distribution, in which the number i has a probability in proportion to mean^i / i!. */
 static struct shares shares_of_poisson(double mean, int many)
 {
     struct shares found = {0.0, 0.0};
@@ -149,9 +150,9 @@ static struct shares shares_of_poisson(double mean, int many)
     return found;
 }
 
-/* The bounds of an estimate from coupons. Values are lost where they share a coupon, and as such pairs are rare, the
- * number of the lost is distributed as Poisson's. A number of values lies below the bounds where it would lose so few
- * less often than the tail says, and above them where it would lose so many. */
+/* Sets the bounds of an estimate from coupons. Values are lost if they share a coupon. Such pairs are rare, so the number of
+ * lost values has a Poisson distribution. A number of values is below the bounds if it would lose that few with a smaller
+ * probability than the tail, and above them if it would lose that many with a smaller probability. */
 static void bound_by_losses(hll_estimation *found, double coupons)
 {
     struct shares shares;
@@ -171,7 +172,7 @@ static void bound_by_losses(hll_estimation *found, double coupons)
     } while (shares.at_least >= tails[DEVIATIONS - 1]);
 }
 
-/* The number of these bits. */
+/* Returns the double that has these bits. */
 static double number_of_bits(uint64_t bits)
 {
     union {
@@ -182,7 +183,7 @@ static double number_of_bits(uint64_t bits)
     return word.number;
 }
 
-/* The estimation of registers, by what a proved call tells. */
+/* Returns the estimation of registers, from the result of a proved call. */
 static hll_estimation estimation_of_registers(const struct estimate *found)
 {
     double estimate = number_of_bits(found->bits);
@@ -191,7 +192,7 @@ static hll_estimation estimation_of_registers(const struct estimate *found)
     return with_bounds(estimate, error_of_registers(estimate, (double)found->registers), (double)found->seen);
 }
 
-/* The estimation of a list or a set of so many coupons. */
+/* Returns the estimation of a list or a set of n coupons. */
 static hll_estimation estimation_of_coupons(uint64_t coupons)
 {
     double estimate = estimate_of_coupons((double)coupons);

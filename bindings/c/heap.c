@@ -1,12 +1,12 @@
 /* SPDX-License-Identifier: Apache-2.0 */
 /*
- * What the archive of the crate hll_c calls for memory, over malloc. Plain C, not proved.
+ * Allocation for the archive of the crate hll_c, by malloc. Plain C, not proved.
  */
 #include <stddef.h>
 #include <stdint.h>
 #include <stdlib.h>
 
-/* Whether there was memory, and where; never NULL. */
+/* Whether the allocation succeeded, and its address, which is never NULL. */
 typedef struct tried {
     uint64_t is_there;
     void *memory;
@@ -25,7 +25,7 @@ static tried answer(void *memory)
     return found;
 }
 
-/* No type of the library is aligned to more than 16 bytes, as memory of malloc is. */
+/* No type of the library needs a larger alignment than 16 bytes, which malloc guarantees. */
 tried rattle_alloc(size_t size, size_t align)
 {
     return answer(malloc(size != 0 ? size : align));

@@ -1,7 +1,7 @@
 /* SPDX-License-Identifier: Apache-2.0 */
 /*
- * The calls that tell what a caller may not want: NULL for it gets a place that is thrown away, so the proved call that
- * each of them makes, whose name the Makefile changes, always has one. Plain C, not proved.
+ * Calls with results that a caller may not want: for NULL they pass memory that is thrown away, so the proved call that each
+ * of them makes, whose name the Makefile changes, always gets a pointer. Plain C, not proved.
  */
 #include "hll.h"
 

@@ -1,6 +1,6 @@
 /* SPDX-License-Identifier: Apache-2.0 */
 /*
- * States: a caller's bytes are handed over to the proved calls as elements of four bytes. Plain C, not proved.
+ * States: the bytes of a caller are passed to the proved calls as elements of four bytes. Plain C, not proved.
  */
 #include "hll.h"
 

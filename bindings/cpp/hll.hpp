@@ -18,15 +18,14 @@
 // Exceptions. After an exception the object is as it was before the call.
 //     hll::image_error         the bytes are not the image of a sketch; status() and reason() say why
 //     hll::lg_k_error          a union without a bound got a sketch of another lg_k
-//     std::invalid_argument    an argument is out of its range
+//     std::invalid_argument    an argument is out of range
 //     std::bad_alloc           an allocation failed
 //
 // Threads. Const members can be called on one object by several threads at once, as on a container of the standard
 // library; other members need the object for themselves. The calls of hll.h that read a state may reorder its bytes, so
-// each const member reads a copy. Of registers the copy adds 10 to 20 % to the time of an estimate. Coupons that were
-// added since are put in order in each copy: at 300 values an estimate takes five times as long as one of coupons in
-// order, 4 microseconds and not 1 (bench.cpp). To put them in order at each update instead would cost more, as sketches
-// are updated more often than they are read.
+// each const member reads a copy. With registers, the copy adds 10 to 20 % to the time of an estimate. Coupons that were
+// added since the last sort are sorted in each copy: at 300 values an estimate takes 4 microseconds, and 1 if the coupons
+// are sorted already (bench.cpp). Sorting at each update would cost more, as sketches are updated more often than read.
 #ifndef HLL_HPP
 #define HLL_HPP
 
@@ -116,7 +115,7 @@ namespace detail {
 
 constexpr unsigned default_lg_k = 12;
 constexpr size_t batch = 256; // values that are hashed before their coupons are added
-constexpr size_t first_room = HLL_STATE_NEW + 9 * sizeof(uint32_t); // what the library asks for at the first value
+constexpr size_t first_room = HLL_STATE_NEW + 9 * sizeof(uint32_t); // the bytes that the library needs for the first value
 
 inline unsigned checked_lg_k(unsigned lg_k)
 {
@@ -233,7 +232,7 @@ class state {
     std::vector<uint8_t> image(unsigned width) const
     {
         state copy = scratch();
-        std::vector<uint8_t> out(copy.bytes_.size()); // enough, but where registers of four bits have many exceptions
+        std::vector<uint8_t> out(copy.bytes_.size()); // enough, unless 4-bit registers have many exceptions
         size_t size = 0;
         hll_status status =
             hll_state_image(copy.bytes_.data(), copy.bytes_.size(), width, out.data(), out.size(), &size);
@@ -249,7 +248,7 @@ class state {
 
   private:
     std::vector<uint8_t> bytes_;
-    uint8_t lg_k_; // where there are no bytes
+    uint8_t lg_k_; // if there are no bytes
 
     size_t size() const noexcept { return bytes_.empty() ? 0 : hll_state_size(bytes_.data()); }
 
@@ -387,7 +386,7 @@ class counter {
         if (n > batch && !state_.has_registers()) {
             if (n <= HLL_STATE_MOST(lg_k()) / 8)
                 return update_at_once(values, n);
-            state_.grow_to_most(); // so that no batch fails for want of memory, after others were added
+            state_.grow_to_most(); // so no batch fails with bad_alloc after others were added
         }
         for (size_t done = 0; done < n; done += batch) {
             const size_t some = std::min(batch, n - done);
@@ -476,7 +475,7 @@ class sketch : public detail::counter {
     {
         const uint8_t *bytes = detail::checked_bytes(image, size);
         const unsigned lg_k = hll_image_lg_k(bytes, size), width = hll_image_width(bytes, size);
-        sketch made(lg_k ? lg_k : detail::default_lg_k, width ? width : 8); // where the header is wrong, join says why
+        sketch made(lg_k ? lg_k : detail::default_lg_k, width ? width : 8); // if the header is wrong, join returns the reason
         const hll_status status = made.state_.join(made.lg_k(), bytes, size);
         if (detail::is_refusal(status))
             throw image_error(status, size);

@@ -1,6 +1,6 @@
 /* SPDX-License-Identifier: Apache-2.0 */
 /*
- * The aggregates: the step of a union, and what all of them share. values.c has the steps of values.
+ * The aggregates: the step of a union, and what all aggregates share. The steps of values are in values.c.
  */
 #include "group.h"
 
@@ -12,7 +12,7 @@
 
 /* ---- memory */
 
-/* The context in which groups live that an aggregate keeps. */
+/* The context for the groups of an aggregate. */
 static MemoryContext
 aggregate_context(FunctionCallInfo fcinfo)
 {
@@ -23,15 +23,15 @@ aggregate_context(FunctionCallInfo fcinfo)
 	return context;
 }
 
-/* The name of the contexts of states, which tells them from others by its address. */
+/* The name of the contexts of states. Its address distinguishes them from other contexts. */
 static const char states_name[] = "HLL states";
 
-/* So many contexts are looked at: those of other aggregates may be many, and newer. */
+/* The number of contexts that are looked at: other aggregates may have many contexts, and newer ones. */
 #define MOST_LOOKS 8
 
 /*
- * A context below that of an aggregate, in which a large chunk takes its own bytes. In the aggregate's one the registers of
- * lg_k 12 and the header of their state would take 8 kilobytes, as chunks there are powers of two.
+ * A context below that of an aggregate, in which a large chunk takes only its own bytes. In the context of the aggregate
+ * chunks are powers of two, so the registers of lg_k 12 with the header of their state would take 8 kilobytes.
  */
 static MemoryContext
 context_of_states(MemoryContext parent)
@@ -49,7 +49,7 @@ context_of_states(MemoryContext parent)
 
 /* ---- rows */
 
-/* An argument of the aggregate that is the same for all rows. */
+/* An argument of the aggregate that has to be the same in all rows. */
 static int64
 option(FunctionCallInfo fcinfo, int number, const char *name)
 {
@@ -69,7 +69,7 @@ check_same(const Group *group, uint8 lg_k, uint8 width)
 				 errmsg("the size and the width of a sketch must be the same for all rows of a group")));
 }
 
-/* The group for the next row: arguments are the group, what the row brings, lg_k and width. */
+/* Returns the group for the next row. The arguments are the group, the value of the row, lg_k and width. */
 Group *
 next_row(FunctionCallInfo fcinfo, const char *lg_k_name, uint8 lg_k, uint8 width)
 {
@@ -80,7 +80,7 @@ next_row(FunctionCallInfo fcinfo, const char *lg_k_name, uint8 lg_k, uint8 width
 	if (PG_NARGS() > 3)
 		width = checked_width(option(fcinfo, 3, "width"));
 
-	/* The server looks for interrupts as it reads rows, but not where it hands over rows that it sorted. */
+	/* The server looks for interrupts when it reads rows, but not when it passes rows that it has sorted. */
 	CHECK_FOR_INTERRUPTS();
 	if (PG_ARGISNULL(0))
 		group = new_group(context_of_states(aggregate_context(fcinfo)), lg_k, width);
@@ -92,8 +92,8 @@ next_row(FunctionCallInfo fcinfo, const char *lg_k_name, uint8 lg_k, uint8 width
 }
 
 /*
- * Refuses to merge a sketch of another lg_k without a bound. The row is named where its number is that in the group: not where
- * workers count their own.
+ * Raises an error for a sketch of another lg_k without a bound. The error names the row if its number is that in the group,
+ * and not if workers count their own rows.
  */
 static void
 refuse_other_lg_k(FunctionCallInfo fcinfo, uint8 lg_k, uint8 other, int64 row)
@@ -110,7 +110,7 @@ refuse_other_lg_k(FunctionCallInfo fcinfo, uint8 lg_k, uint8 other, int64 row)
 			 errhint("Give the bound: %s(sketch, %d) merges them at lg_k %d.", name, Min(lg_k, other), Min(lg_k, other))));
 }
 
-/* Joins the image of a row to its group. */
+/* Merges the image of a row into its group. */
 static void
 join_row(FunctionCallInfo fcinfo, Group *group, bytea *image)
 {
@@ -124,7 +124,7 @@ join_row(FunctionCallInfo fcinfo, Group *group, bytea *image)
 
 PG_FUNCTION_INFO_V1(hll_pg_union_trans);
 
-/* The step of unions of the type, whose values are single images. */
+/* The step of unions of the type, whose values are known to be single images. */
 Datum
 hll_pg_union_trans(PG_FUNCTION_ARGS)
 {
@@ -137,7 +137,7 @@ hll_pg_union_trans(PG_FUNCTION_ARGS)
 
 PG_FUNCTION_INFO_V1(hll_pg_union_bytea_trans);
 
-/* The step of unions of bytea, which may be anything. */
+/* The step of unions of bytea, whose values may be any bytes. */
 Datum
 hll_pg_union_bytea_trans(PG_FUNCTION_ARGS)
 {
@@ -157,7 +157,7 @@ hll_pg_union_bytea_trans(PG_FUNCTION_ARGS)
 
 PG_FUNCTION_INFO_V1(hll_pg_combine);
 
-/* Joins the second group to the first. */
+/* Merges the second group into the first. */
 Datum
 hll_pg_combine(PG_FUNCTION_ARGS)
 {
@@ -180,12 +180,12 @@ hll_pg_combine(PG_FUNCTION_ARGS)
 	PG_RETURN_POINTER(group);
 }
 
-/* What a worker sends: a header, and the sketch, if there is one. Both ends are of one server. */
+/* What a worker sends: a header, and the sketch if there is one. Sender and receiver are one server. */
 typedef struct Sent
 {
 	uint8		lg_k;
 	uint8		width;
-	uint8		is_state;		/* whether the sketch is a state, else it is an image */
+	uint8		is_state;		/* whether the sketch is a state; otherwise it is an image */
 } Sent;
 
 static Datum
@@ -204,8 +204,9 @@ bytes_to_send(const Group *group, bool is_state, const uint8 *sketch, size_t siz
 PG_FUNCTION_INFO_V1(hll_pg_serial);
 
 /*
- * Sends coupons as an image, which is smaller than their state, at the width that the state gives; and registers as their
- * state, which is as small. (Images of different width have width 8 from there on, which is what they have together.)
+ * Sends coupons as an image, which is smaller than their state, at the width that the state has; and registers as their
+ * state, which is as small. (If the images have different widths, the width is 8 from then on, as it would be for all
+ * together.)
  */
 Datum
 hll_pg_serial(PG_FUNCTION_ARGS)
@@ -248,11 +249,11 @@ hll_pg_deserial(PG_FUNCTION_ARGS)
 	PG_RETURN_POINTER(group);
 }
 
-/* ---- the answer */
+/* ---- the result */
 
 PG_FUNCTION_INFO_V1(hll_pg_final);
 
-/* As a window function it is asked again for each row. */
+/* As a window function it is called again for each row. */
 Datum
 hll_pg_final(PG_FUNCTION_ARGS)
 {

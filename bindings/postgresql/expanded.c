@@ -7,7 +7,7 @@
 
 /* ---- objects */
 
-/* The image of an object, which it keeps. */
+/* Returns the image of an object, which keeps it. */
 static bytea *
 kept_image(ExpandedSketch *object)
 {
@@ -35,7 +35,8 @@ flatten_into(ExpandedObjectHeader *header, void *result, Size allocated_size)
 
 static const ExpandedObjectMethods methods = {flat_size, flatten_into};
 
-/* An object with a copy of a state, in a context of its own below this one, in which a large chunk takes its own bytes. */
+/* Makes an object with a copy of a state, in a context of its own below this one, in which a large chunk takes only its own
+ * bytes. */
 static ExpandedSketch *
 object_of_state(MemoryContext parent, const State *state)
 {
@@ -58,7 +59,7 @@ expanded_of(Datum value)
 	return header->eoh_methods == &methods ? (ExpandedSketch *) header : NULL;
 }
 
-/* What the header of a value says; of a flat one no more is fetched than that. */
+/* Returns what the header of a value says. Of a flat value no more than the header is fetched. */
 Header
 header_of(Datum value)
 {
@@ -80,7 +81,7 @@ header_of(Datum value)
 	return header;
 }
 
-/* Where a function's object lives: in an aggregate as long as the state. */
+/* The context of a function's object: in an aggregate it lives as long as the state. */
 static MemoryContext
 context_of_value(FunctionCallInfo fcinfo)
 {
@@ -89,7 +90,7 @@ context_of_value(FunctionCallInfo fcinfo)
 	return AggCheckCallContext(fcinfo, &context) ? context : CurrentMemoryContext;
 }
 
-/* A value of a state: an object where it has registers, since a call may follow that needs them, and else an image. */
+/* Returns the value of a state: an object if it has registers, since a further call may need them, and otherwise an image. */
 static Datum
 value_of_state(MemoryContext parent, State *state)
 {
@@ -98,7 +99,7 @@ value_of_state(MemoryContext parent, State *state)
 	return EOHPGetRWDatum(&object_of_state(parent, state)->header);
 }
 
-/* A value of an image that was written, likewise. */
+/* Returns the value of a new image, likewise. */
 static Datum
 value_of_image(MemoryContext parent, bytea *image)
 {
@@ -111,7 +112,7 @@ value_of_image(MemoryContext parent, bytea *image)
 	return value_of_state(parent, &state);
 }
 
-/* The object of a value that may be changed: the value itself, where the caller gave it away, or a copy. */
+/* Returns the object of a value that may be changed: the value itself if the caller gave it away, or a copy. */
 static ExpandedSketch *
 own_object(MemoryContext parent, Datum value)
 {
@@ -122,7 +123,7 @@ own_object(MemoryContext parent, Datum value)
 	return object_of_state(parent, &object->state);
 }
 
-/* The value of an object whose state has changed. */
+/* Returns the value of an object whose state has changed. */
 static Datum
 changed_object(ExpandedSketch *object)
 {
@@ -143,11 +144,11 @@ refuse_other_lg_k(uint8 lg_k, uint8 other)
 			 errhint("Give the bound: hll_merge(a, b, %d) merges them at lg_k %d.", Min(lg_k, other), Min(lg_k, other))));
 }
 
-/* An argument that is merged: an object, or an image. */
+/* An argument of a merge: an object or an image. */
 typedef struct Side
 {
-	ExpandedSketch *object;		/* NULL where the argument is flat */
-	bytea	   *image;			/* of a flat one */
+	ExpandedSketch *object;		/* NULL if the argument is flat */
+	bytea	   *image;			/* of a flat argument */
 } Side;
 
 static Side
@@ -160,7 +161,7 @@ side_in(FunctionCallInfo fcinfo, int argument)
 	return side;
 }
 
-/* Joins a side, the argument of this number (from 0), to a state. */
+/* Merges a side, the argument of this number (from 0), into a state. */
 static void
 join_side(State *state, uint8 lg_max_k, Side side, size_t number)
 {
@@ -182,14 +183,14 @@ join_side(State *state, uint8 lg_max_k, Side side, size_t number)
 	check_argument_status(status, number);
 }
 
-/* The bound of a merge, its third argument; 0 where there is none. */
+/* Returns the bound of a merge, its third argument, or 0 if there is none. */
 static uint8
 bound_in(FunctionCallInfo fcinfo)
 {
 	return PG_NARGS() > 2 ? checked_lg_k("lg_max_k", PG_GETARG_INT64(2)) : 0;
 }
 
-/* A state of the union of both sides, in the current context. */
+/* Makes a state of the union of both sides, in the current context. */
 static State
 merged_state(uint8 lg_max_k, Side left, Side right)
 {
@@ -201,7 +202,8 @@ merged_state(uint8 lg_max_k, Side left, Side right)
 	return state;
 }
 
-/* Whether both sides are lists or sets of one lg_k and width, so that their union has these, with no bound or with this one. */
+/* Returns whether both sides are lists or sets of one lg_k and width, which are also those of their union, and there is no
+ * bound or that lg_k is the bound. */
 static bool
 are_alike(uint8 lg_max_k, Side left, Side right)
 {
@@ -215,7 +217,7 @@ are_alike(uint8 lg_max_k, Side left, Side right)
 		hll_image_stage(IMAGE(left.image)) != HLL_REGISTERS && hll_image_stage(IMAGE(right.image)) != HLL_REGISTERS;
 }
 
-/* The image of the union of such sides, by the call that merges images: it takes a third of the time of a state. */
+/* Returns the image of the union of such sides, by the call that merges images. It takes a third of the time of a state. */
 static bytea *
 merged_image(Side left, Side right)
 {
@@ -233,7 +235,7 @@ merged_image(Side left, Side right)
 
 PG_FUNCTION_INFO_V1(hll_pg_merge);
 
-/* The union of two images. */
+/* Returns the union of two images. */
 Datum
 hll_pg_merge(PG_FUNCTION_ARGS)
 {
@@ -250,7 +252,7 @@ hll_pg_merge(PG_FUNCTION_ARGS)
 
 PG_FUNCTION_INFO_V1(hll_pg_merge_sketches);
 
-/* As hll_pg_merge, of the type. */
+/* Does what hll_pg_merge does, for the type. */
 Datum
 hll_pg_merge_sketches(PG_FUNCTION_ARGS)
 {
@@ -277,7 +279,7 @@ hll_pg_merge_sketches(PG_FUNCTION_ARGS)
 
 /* ---- additions */
 
-/* The image of a sketch with one value more, by the call that reads and writes it. */
+/* Returns the image of a sketch with one more value, by the call that reads and writes images. */
 static bytea *
 image_with(bytea *image, const uint8 *value, size_t size)
 {
@@ -289,7 +291,7 @@ image_with(bytea *image, const uint8 *value, size_t size)
 	return end_output(&out);
 }
 
-/* An object adds to its state. An image becomes one where it has registers, since another value may follow. */
+/* An object adds the value to its state. An image becomes an object if it has registers, since another value may follow. */
 Datum
 sketch_with(FunctionCallInfo fcinfo, const uint8 *value, size_t size)
 {

@@ -1,7 +1,7 @@
 /* SPDX-License-Identifier: Apache-2.0 */
 /*
- * Expanded values of the type hyperloglog: those that a merge or an addition leaves in registers, so that the next one, in a
- * loop or in an aggregate, needs not read and write an image of them again.
+ * Expanded values of the type hyperloglog: the results of merges and additions that have registers. The next merge or
+ * addition, in a loop or in an aggregate, then needn't read and write their image again.
  */
 #ifndef HLL_EXPANDED_H
 #define HLL_EXPANDED_H
@@ -15,7 +15,7 @@ typedef struct ExpandedSketch
 {
 	ExpandedObjectHeader header;
 	State		state;
-	bytea	   *image;			/* NULL where the state has changed since it was written */
+	bytea	   *image;			/* NULL if the state has changed since the image was written */
 } ExpandedSketch;
 
 /* What a value's header says. */
@@ -23,14 +23,14 @@ typedef struct Header
 {
 	uint8		lg_k;
 	uint8		width;
-	size_t		size;			/* of the image; 0 of an object, whose image is never too long */
+	size_t		size;			/* the size of the image; 0 for an object, whose image is never too long */
 } Header;
 
-/* The object of a value, or NULL where that is flat. */
+/* Returns the object of a value, or NULL if the value is flat. */
 extern ExpandedSketch *expanded_of(Datum value);
 extern Header header_of(Datum value);
 
-/* The sketch that is the first argument of a function, with one value more. */
+/* Returns the sketch that is the first argument of a function, with one more value. */
 extern Datum sketch_with(FunctionCallInfo fcinfo, const uint8 *value, size_t size);
 
 #endif

@@ -1,6 +1,6 @@
 /* SPDX-License-Identifier: Apache-2.0 */
 /*
- * Functions of one image or two. Each is one call of the library.
+ * Functions of one or two images. Each makes one call of the library.
  */
 #include "hll_pg.h"
 
@@ -10,7 +10,7 @@
 
 PG_MODULE_MAGIC;
 
-/* A guess at what an image needs that changes its width or lg_k: only many exceptions of four bits need more. */
+/* A guess at the size of an image at another width or lg_k. Only many exceptions of 4-bit registers need more. */
 #define CHANGED_ROOM(image) (2 * LENGTH(image) + 64)
 
 bytea *
@@ -125,7 +125,7 @@ hll_pg_agree(PG_FUNCTION_ARGS)
 	PG_RETURN_BOOL(same != 0);
 }
 
-/* The word of the reason why bytes are no image, or NULL. */
+/* Returns the word of the reason why bytes are not an image, or NULL. */
 static const char *
 fault_of(const uint8 *bytes, size_t size)
 {
@@ -164,7 +164,7 @@ hll_pg_is_image(PG_FUNCTION_ARGS)
 
 PG_FUNCTION_INFO_V1(hll_pg_first_image);
 
-/* The image with which bytes begin. */
+/* Returns the image with which bytes begin. */
 Datum
 hll_pg_first_image(PG_FUNCTION_ARGS)
 {
@@ -179,7 +179,7 @@ hll_pg_first_image(PG_FUNCTION_ARGS)
 	PG_RETURN_BYTEA_P(image);
 }
 
-/* The row that the function answers, of values that are not NULL. */
+/* Makes the row that the function returns, of values that are not NULL. */
 static Datum
 row_of(FunctionCallInfo fcinfo, Datum *values)
 {
@@ -224,7 +224,7 @@ hll_pg_estimate(PG_FUNCTION_ARGS)
 
 PG_FUNCTION_INFO_V1(hll_pg_hip_estimate);
 
-/* The estimate that the writer of an image kept in it, or NULL. */
+/* Returns the HIP estimate in an image, or NULL. */
 Datum
 hll_pg_hip_estimate(PG_FUNCTION_ARGS)
 {

@@ -3,7 +3,8 @@
 
 #include "utils/memutils.h"
 
-/* So many coupons wait for a state of coupons, which asks for room for all of them, and for one of registers. */
+/* The number of coupons that wait: for a state of coupons, which asks for room for all of them, and for a state of
+ * registers. */
 #define FEW_COUPONS 8
 #define MANY_COUPONS 32
 
@@ -17,14 +18,14 @@ new_group(MemoryContext context, uint8 lg_k, uint8 width)
 	return group;
 }
 
-/* Whether a value or an image has come. */
+/* Returns whether a value or an image has come. */
 bool
 has_state(const Group *group)
 {
 	return group->state.bytes != NULL;
 }
 
-/* The state with all that came, made where there is none yet. */
+/* Returns the state with all that has come, and makes it if there is none yet. */
 State *
 state_of(Group *group)
 {

@@ -1,9 +1,8 @@
 /* SPDX-License-Identifier: Apache-2.0 */
 /*
- * What the files of the extension share: images as arguments, refusals as errors, and room for an image.
- *
- * A call of the library returns before any ereport, and has given back its memory by then. Buffers are palloc'd. So an
- * error, a cancelled query or a timeout leaves nothing behind.
+ * What the files of the extension share: images as arguments, errors, and room for an image. A call of the library returns
+ * before any ereport, and has freed its memory by then. Buffers are palloc'd. So an error, a cancelled query or a timeout
+ * leaks nothing.
  */
 #ifndef HLL_PG_H
 #define HLL_PG_H
@@ -19,7 +18,7 @@
 #define BYTES(varlena) ((const uint8 *) VARDATA_ANY(varlena))
 #define LENGTH(varlena) ((size_t) VARSIZE_ANY_EXHDR(varlena))
 
-/* bytes and their length, as the library takes them */
+/* bytes and their length, as the library expects them */
 #define IMAGE(varlena) BYTES(varlena), LENGTH(varlena)
 
 /* The bytea that a call writes an image into. */
@@ -37,8 +36,8 @@ extern bool grow_output(Output *out, hll_status status);
 extern bytea *end_output(Output *out);
 
 /*
- * Makes a call that writes an image into OUTPUT(out). The first room is a guess; where the call says that it is too
- * small, the output is made as large as is needed, and the call is made again.
+ * Makes a call that writes an image into OUTPUT(out). The first room is a guess. If the call returns that it is too small,
+ * the output is enlarged to the size that is needed, and the call is made again.
  */
 #define WRITE_OUTPUT(out, guess, status, call) \
 	do \
@@ -49,28 +48,30 @@ extern bytea *end_output(Output *out);
 		while (grow_output(&(out), status)); \
 	} while (0)
 
-/* Each raises an error unless the status is HLL_OK, or the number is in range. */
+/* Each function raises an error unless the status is HLL_OK, or the number is in range. */
 extern void check_status(hll_status status);
 extern void check_argument_status(hll_status status, size_t argument);
 extern void check_row_status(hll_status status, int64 row);
 extern uint8 checked_lg_k(const char *name, int64 lg_k);
 extern uint8 checked_width(int64 width);
 
-/* Raises an error where bytes follow an image; `what` and `number` say which, as "row" 17, or are NULL and 0. */
+/* Raises an error if bytes follow an image. `what` and `number` say which image, for example "row" 17, or are NULL and 0. */
 extern void check_whole(const uint8 *image, size_t size, const char *what, int64 number);
 
-/* The image that is an argument, from 0, and the one of them whose number an error is to name. */
+/* Returns the image that is an argument, counted from 0, and the argument whose number an error will name. */
 extern bytea *image_in(FunctionCallInfo fcinfo, int argument);
 extern bytea *numbered_image_in(FunctionCallInfo fcinfo, int argument);
 
-/* Whether bytes are an empty list with its eight places, as other libraries write it for updates. No reader looks at these. */
+/* Returns whether bytes are an empty list with its eight buckets, as other libraries write it in updatable form. No reader
+ * looks at the buckets. */
 extern bool is_empty_table(const uint8 *image, size_t size);
 
-/* Refuses texts that aren't equal by their bytes, once a query, of a function whose second argument is a text (texts.c). */
+/* Raises an error for texts that are not compared by their bytes, once per query, in a function whose second argument is a
+ * text (texts.c). */
 extern void check_text(FunctionCallInfo fcinfo);
 extern void refuse_type(Oid type);
 
-/* What the header of an image names, before it is read: where the bytes are no image, any that is in range. */
+/* What the header of an image says, before the image is read. If the bytes are not an image, it is any number in range. */
 extern uint8 named_lg_k(const uint8 *image, size_t size);
 extern uint8 named_width(const uint8 *image, size_t size);
 

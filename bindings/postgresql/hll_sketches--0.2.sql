@@ -2,15 +2,15 @@
 
 \echo Use "CREATE EXTENSION hll_sketches" to load this file. \quit
 
--- A script runs as a superuser, while others may have objects in the target schema, which is on the search path. There an
--- operator or a function is taken before one of the catalog if its types fit better. So what is the catalog's is named
+-- This script runs as a superuser, and others may have objects in the target schema, which is on the search path. PostgreSQL
+-- prefers their operators and functions to those of the catalog if the types fit better. So everything of the catalog is named
 -- with its schema.
 --
--- The extension's own names go without one, as it can be moved. Each is looked up with just the types that it has here,
--- and such a match goes before any other. Nothing else can have that name and those types: what was there before lets
--- CREATE fail, as it says nowhere OR REPLACE.
+-- The extension's own names have no schema, as it can be moved. Each is looked up with exactly the types that it has here, and
+-- such a match goes first. Nothing else can have the same name and types: an object that was there before makes CREATE fail, as
+-- nothing here says OR REPLACE.
 --
--- Numbers are int8 where they are arguments: int2 and int4 are cast to it by themselves.
+-- Number arguments are int8, to which int2 and int4 are cast implicitly.
 
 -- ---- the type
 
@@ -29,7 +29,7 @@ CREATE FUNCTION hyperloglog_typmod_in(pg_catalog.cstring[]) RETURNS pg_catalog.i
 CREATE FUNCTION hyperloglog_typmod_out(pg_catalog.int4) RETURNS pg_catalog.cstring
     AS 'MODULE_PATHNAME', 'hll_pg_typmod_out' LANGUAGE C IMMUTABLE STRICT PARALLEL SAFE;
 
--- It is preferred to bytea where a literal could be either.
+-- It is preferred to bytea if a literal could be either.
 CREATE TYPE hyperloglog (
     INPUT = hyperloglog_in, OUTPUT = hyperloglog_out, RECEIVE = hyperloglog_recv, SEND = hyperloglog_send,
     TYPMOD_IN = hyperloglog_typmod_in, TYPMOD_OUT = hyperloglog_typmod_out,
@@ -51,8 +51,9 @@ CREATE CAST (hyperloglog AS pg_catalog.bytea) WITHOUT FUNCTION AS IMPLICIT;
 
 -- ---- comparisons: of bytes, as bytea compares them
 
--- (Without classes of its own the type would have those of bytea, by the cast, but an operator that somebody else defined for
--- it would go before. A class for hash alone would be at odds with that of bytea for btree, and no group could be hashed.)
+-- (Without operator classes of its own the type would use those of bytea, by the cast, but an operator that somebody else
+-- defines for the type would go first. A class only for hash would not go together with the btree class of bytea, and then no
+-- group could be hashed.)
 
 CREATE FUNCTION hyperloglog_eq(hyperloglog, hyperloglog) RETURNS pg_catalog.bool
     AS 'byteaeq' LANGUAGE internal IMMUTABLE STRICT PARALLEL SAFE LEAKPROOF;
@@ -199,7 +200,7 @@ CREATE FUNCTION hll_agree(a pg_catalog.bytea, b pg_catalog.bytea) RETURNS pg_cat
 COMMENT ON FUNCTION hll_agree(pg_catalog.bytea, pg_catalog.bytea)
     IS 'whether two sketches have the same registers at the smaller lg_k';
 
--- (Beside bytea the operator of bytea would be taken, which puts one after the other.)
+-- (With a bytea on one side PostgreSQL would choose the operator of bytea, which concatenates.)
 CREATE FUNCTION hll_merge(a hyperloglog, b pg_catalog.bytea) RETURNS hyperloglog
     AS 'MODULE_PATHNAME', 'hll_pg_merge_sketches' LANGUAGE C IMMUTABLE STRICT PARALLEL SAFE COST 100;
 CREATE FUNCTION hll_merge(a pg_catalog.bytea, b hyperloglog) RETURNS hyperloglog
@@ -209,7 +210,7 @@ COMMENT ON OPERATOR || (hyperloglog, hyperloglog) IS 'the union of two sketches 
 CREATE OPERATOR || (LEFTARG = hyperloglog, RIGHTARG = pg_catalog.bytea, FUNCTION = hll_merge);
 CREATE OPERATOR || (LEFTARG = pg_catalog.bytea, RIGHTARG = hyperloglog, FUNCTION = hll_merge);
 
--- ---- what the aggregates are made of
+-- ---- functions of the aggregates
 
 CREATE FUNCTION hll_image_combine(pg_catalog.internal, pg_catalog.internal) RETURNS pg_catalog.internal
     AS 'MODULE_PATHNAME', 'hll_pg_combine' LANGUAGE C IMMUTABLE PARALLEL SAFE COST 100;
@@ -222,8 +223,8 @@ CREATE FUNCTION hll_image_final(pg_catalog.internal) RETURNS pg_catalog.bytea
 CREATE FUNCTION hyperloglog_final(pg_catalog.internal) RETURNS hyperloglog
     AS 'MODULE_PATHNAME', 'hll_pg_final' LANGUAGE C IMMUTABLE PARALLEL SAFE COST 100;
 
--- ---- unions: hyperloglog_union_agg(sketch [, lg_max_k [, width]]), which gives the type, and hll_image_union_agg, which gives
--- bytes; each of the type and of bytes
+-- ---- unions: hyperloglog_union_agg(sketch [, lg_max_k [, width]]), which returns the type, and hll_image_union_agg, which
+-- returns bytes; each for the type and for bytes
 
 DO $$
 DECLARE
@@ -249,11 +250,11 @@ BEGIN
 END
 $$;
 
--- ---- values: hyperloglog_agg(value [, lg_k [, width]]), which gives the type, and hll_image_add_agg, which gives bytes; and
--- hll_add(sketch, value)
+-- ---- values: hyperloglog_agg(value [, lg_k [, width]]), which returns the type, and hll_image_add_agg, which returns bytes;
+-- and hll_add(sketch, value)
 
--- Each type of values has a step and an addition. A numeric would be taken as a float8, and anything else by what it can be cast
--- to; so these are refused, and sketches as well.
+-- Each type of values has a step and an addition. A numeric would be cast to a float8, and other types to whatever they can be
+-- cast to. So these are rejected, and sketches too.
 DO $$
 DECLARE
     kinds CONSTANT pg_catalog.text[] := ARRAY[

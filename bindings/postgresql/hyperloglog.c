@@ -1,7 +1,7 @@
 /* SPDX-License-Identifier: Apache-2.0 */
 /*
- * The type hyperloglog: the bytes of one image, read and written as those of bytea. Its modifier is an lg_k, or an lg_k and
- * a width.
+ * The type hyperloglog: the bytes of one image, read and written like those of bytea. Its modifier is an lg_k, or an lg_k
+ * and a width.
  */
 #include "expanded.h"
 
@@ -9,15 +9,15 @@
 #include "utils/array.h"
 #include "utils/builtins.h"
 
-/* A modifier is the lg_k, and above it the width, or 0 where any is right. */
+/* A modifier is the lg_k, and in the higher bits the width, or 0 if any width is allowed. */
 #define MODIFIER(lg_k, width) ((int32) (lg_k) | (int32) (width) << 8)
 #define LG_K_IN(modifier) ((modifier) & 0xff)
 #define WIDTH_IN(modifier) ((modifier) >> 8)
 
 /* ---- what a modifier asks for */
 
-/* How long an image may be: registers of eight or six bits, which a set in its table is not longer than; with those of
- * four bits go exceptions. */
+/* How long an image may be: 8-bit or 6-bit registers, which are at least as long as a set with its table; 4-bit registers
+ * with their exceptions. */
 static size_t
 largest_size(int32 modifier)
 {
@@ -42,7 +42,7 @@ refuse_header(const char *what, int wanted, int found)
 			 errmsg("expected an HLL image of %s %d, not %d", what, wanted, found)));
 }
 
-/* Refuses an image that isn't as the modifier asks, before it is read. */
+/* Raises an error for an image that the modifier doesn't allow, before it is read. */
 static void
 check_header(Header header, int32 modifier)
 {
@@ -58,7 +58,8 @@ check_header(Header header, int32 modifier)
 				 errmsg("expected an HLL image of at most %zu bytes, not %zu", largest_size(modifier), header.size)));
 }
 
-/* Refuses bytes that aren't one image, or not as the modifier asks; by the header first, as what follows may be slow to read. */
+/* Raises an error for bytes that aren't one image, or that the modifier doesn't allow. It checks the header first, as the
+ * rest may be slow to read. */
 static void
 check_image(bytea *bytes, int32 modifier)
 {
@@ -88,7 +89,7 @@ hll_pg_type_in(PG_FUNCTION_ARGS)
 
 PG_FUNCTION_INFO_V1(hll_pg_type_out);
 
-/* In hexadecimal, whatever bytea_output says. */
+/* Written in hexadecimal, with any setting of bytea_output. */
 Datum
 hll_pg_type_out(PG_FUNCTION_ARGS)
 {
@@ -149,7 +150,7 @@ hll_pg_typmod_out(PG_FUNCTION_ARGS)
 
 PG_FUNCTION_INFO_V1(hll_pg_of_type);
 
-/* A value of the type at a modifier, which is the same value. */
+/* Returns a value of the type at a modifier, unchanged. */
 Datum
 hll_pg_of_type(PG_FUNCTION_ARGS)
 {

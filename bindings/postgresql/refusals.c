@@ -1,15 +1,14 @@
 /* SPDX-License-Identifier: Apache-2.0 */
 /*
- * Refusals of the library as errors of PostgreSQL, and the room for what it writes.
- *
- * An image that is refused is 22P03 (invalid_binary_representation), a number out of its range is 22023
- * (invalid_parameter_value), memory that was refused is 53200 (out_of_memory).
+ * Errors of the library as errors of PostgreSQL, and the room for what it writes. A rejected image is 22P03
+ * (invalid_binary_representation), a number out of range is 22023 (invalid_parameter_value), and a failed allocation is
+ * 53200 (out_of_memory).
  */
 #include "hll_pg.h"
 
 #include "miscadmin.h"
 
-/* Raises an error; `place` says which image was refused, where there are several. */
+/* Raises an error. `place` says which image was rejected, if there are several. */
 static void
 refuse(hll_status status, const char *place)
 {
@@ -33,7 +32,7 @@ check_status(hll_status status)
 		refuse(status, "");
 }
 
-/* Of a call with several images: the number of the one at fault, from 0. */
+/* In a call with several images: the number of the image at fault, from 0. */
 void
 check_argument_status(hll_status status, size_t argument)
 {
@@ -41,7 +40,7 @@ check_argument_status(hll_status status, size_t argument)
 		refuse(status, psprintf(" in argument %d", (int) argument + 1));
 }
 
-/* Of an aggregate: the number of the row, from 1; 0 where there is none. */
+/* In an aggregate: the number of the row, from 1; otherwise 0. */
 void
 check_row_status(hll_status status, int64 row)
 {
@@ -58,14 +57,14 @@ is_empty_table(const uint8 *image, size_t size)
 		memcmp(image + 8, places, sizeof(places)) == 0;
 }
 
-/* An image without its last byte is truncated, which its header tells. Where it isn't, the last byte is none of its own. */
+/* An image without its last byte is truncated, as its header shows. If it isn't, its last byte is not part of the image. */
 void
 check_whole(const uint8 *image, size_t size, const char *what, int64 number)
 {
 	size_t		own;
 	hll_status	status;
 
-	if (hll_image_header_size(image, size) == size) /* nearly always, and quicker */
+	if (hll_image_header_size(image, size) == size) /* the usual case, and faster */
 		return;
 	status = size == 0 ? HLL_TRUNCATED : hll_image_size(image, size - 1, &own);
 	if (status == HLL_MEMORY)
@@ -100,8 +99,8 @@ checked_width(int64 width)
 	return (uint8) width;
 }
 
-/* Room for no more than the largest image that the library writes: an argument may be a gigabyte long, of which only the
- * front is an image, and the server refuses to allocate more. */
+/* Makes room for at most the largest image that the library writes. An argument may be a gigabyte long with an image only at
+ * its start, and the server would not allocate more. */
 void
 start_output(Output *out, size_t room)
 {
@@ -110,7 +109,8 @@ start_output(Output *out, size_t room)
 	out->bytes = palloc(VARHDRSZ + out->room);
 }
 
-/* Whether the room was too small: then there is enough, and the call is to be made again, unless the query is cancelled. */
+/* Returns whether the room was too small. Then there is enough now, and the call has to be made again, unless the query is
+ * cancelled. */
 bool
 grow_output(Output *out, hll_status status)
 {

@@ -4,7 +4,7 @@
 #include "miscadmin.h"
 #include "port/pg_bitutils.h"
 
-/* The server rounds requests up to a power of two, up to these bytes. A state takes all that it gets. */
+/* The server rounds sizes up to a power of two, up to this size. A state uses all that it gets. */
 #define MOST_ROUNDED ((size_t) 1024)
 
 /* An image of coupons that may be slow to read. */
@@ -12,7 +12,7 @@
 
 /* ---- memory */
 
-/* The bytes of a state that has registers. */
+/* Returns the bytes of a state that has registers. */
 static inline size_t
 size_of_registers(const State *state)
 {
@@ -26,7 +26,8 @@ resize(State *state, size_t room)
 	state->room = room;
 }
 
-/* Whether a call asked for more room: then there is enough, and it is to be made again, unless the query is cancelled. */
+/* Returns whether a call asked for more room. Then there is enough now, and the call has to be made again, unless the query
+ * is cancelled. */
 static bool
 grow_state(State *state, hll_status status, size_t size)
 {
@@ -38,8 +39,8 @@ grow_state(State *state, hll_status status, size_t size)
 }
 
 /*
- * How much room an image asks for in an empty state, or 0 where that is little. The most for coupons that may become registers.
- * Without a bound the state takes the lg_k of the image.
+ * Returns how much room an image needs in an empty state, or 0 if that is little. It is the most for coupons that may become
+ * registers. Without a bound the state gets the lg_k of the image.
  */
 static size_t
 room_for(uint8 lg_max_k, const uint8 *image, size_t size)
@@ -58,7 +59,7 @@ room_for(uint8 lg_max_k, const uint8 *image, size_t size)
 	return size > (size_t) 3 << (lg_k - 3) ? HLL_STATE_MOST(lg_k) : HLL_STATE_NEW + size;
 }
 
-/* Makes that room: a call that asks for more has read the image, which may be slow. */
+/* Makes that room first: a call that asks for more has read the image, which may be slow. */
 static void
 make_room_for(State *state, uint8 lg_max_k, const uint8 *image, size_t size)
 {
@@ -68,7 +69,7 @@ make_room_for(State *state, uint8 lg_max_k, const uint8 *image, size_t size)
 		resize(state, room);
 }
 
-/* Frees room that only the coupons needed which have become registers. */
+/* Frees the room that only the coupons needed, after they have become registers. */
 static void
 trim(State *state)
 {
@@ -76,7 +77,7 @@ trim(State *state)
 		resize(state, size_of_registers(state));
 }
 
-/* The state of an empty sketch; with lg_k 0, of one that takes the lg_k of what is joined to it without a bound. */
+/* Makes the state of an empty sketch. With lg_k 0 it gets the lg_k of what is merged into it without a bound. */
 State
 new_state(MemoryContext context, uint8 lg_k)
 {
@@ -123,7 +124,7 @@ add_coupons(State *state, const uint32 *coupons, size_t n)
 	trim(state);
 }
 
-/* Joins an image, under this bound, or without one (0). Returns HLL_OK, HLL_MEMORY, HLL_OTHER_LG_K, or why it is rejected. */
+/* Merges an image, under this bound, or without one (0). Returns HLL_OK, HLL_MEMORY, HLL_OTHER_LG_K, or why it is rejected. */
 hll_status
 join_image(State *state, uint8 lg_max_k, const uint8 *image, size_t size)
 {
@@ -139,7 +140,7 @@ join_image(State *state, uint8 lg_max_k, const uint8 *image, size_t size)
 	return status;
 }
 
-/* Joins another state likewise. Returns HLL_OK or HLL_OTHER_LG_K. */
+/* Merges another state likewise. Returns HLL_OK or HLL_OTHER_LG_K. */
 hll_status
 join_state(State *state, uint8 lg_max_k, State *other)
 {
@@ -157,14 +158,14 @@ join_state(State *state, uint8 lg_max_k, State *other)
 
 /* ---- what comes out */
 
-/* The image at this width, in the current context. */
+/* Returns the image at this width, in the current context. */
 bytea *
 image_of_state(State *state, uint8 width)
 {
 	hll_status	status;
 	Output		out;
 
-	/* Registers of four bits with many exceptions need more. */
+	/* 4-bit registers with many exceptions need more. */
 	WRITE_OUTPUT(out, Min(hll_state_size(state->bytes), size_of_registers(state)), status,
 				 hll_state_image(state->bytes, state->room, width, OUTPUT(out)));
 	check_status(status);

@@ -8,7 +8,7 @@
 
 #include "hll_pg.h"
 
-/* The bytes of a state of up to six coupons. Most groups stay as small. */
+/* The size of a state of up to six coupons. Most groups stay that small. */
 #define SMALL_STATE (HLL_STATE_NEW + 6 * 4)
 
 typedef struct State

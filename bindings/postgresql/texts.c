@@ -1,7 +1,7 @@
 /* SPDX-License-Identifier: Apache-2.0 */
 /*
- * Texts that may be equal though their bytes differ: those of other types than text, as citext, and under a nondeterministic
- * collation. Counted by their bytes they would count twice, so they are refused.
+ * Texts that may be equal though their bytes differ: texts of other types, such as citext, and under a nondeterministic
+ * collation. Counted by their bytes they would count twice, so they are rejected.
  */
 #include "hll_pg.h"
 
@@ -38,7 +38,7 @@ step_of(Oid aggregate)
 	return step;
 }
 
-/* Refuses an expression of another type than text that became a text by an implicit cast: a citext. */
+/* Raises an error for an expression of another type that became a text by an implicit cast: a citext. */
 static void
 check_expression(Node *value)
 {
@@ -52,7 +52,7 @@ check_expression(Node *value)
 		refuse_type(exprType((Node *) cast->arg));
 }
 
-/* Does so to the values of each call of this step over a window. */
+/* Checks the values of each call of this step over a window. */
 static void
 check_windows(WindowAggState *windows, Oid step)
 {
@@ -67,7 +67,7 @@ check_windows(WindowAggState *windows, Oid step)
 	}
 }
 
-/* Does so to the values of this call: of an aggregate, of one over a window, or of a function. */
+/* Checks the values of this call: of an aggregate, of an aggregate over a window, or of a function. */
 static void
 check_values(FunctionCallInfo fcinfo)
 {
@@ -82,7 +82,7 @@ check_values(FunctionCallInfo fcinfo)
 		check_expression(lsecond(((FuncExpr *) call)->args));
 }
 
-/* Refuses texts that are equal by another rule than their bytes, by which they count; once a query. */
+/* Raises an error, once per query, for texts that are compared by another rule than their bytes, which are what is counted. */
 void
 check_text(FunctionCallInfo fcinfo)
 {

@@ -1,7 +1,7 @@
 /* SPDX-License-Identifier: Apache-2.0 */
 /*
- * The steps of the aggregates that count values, and the functions that add one: each type's bytes, as docs/FORMAT.md, "What
- * values are hashed as", says.
+ * The steps of the aggregates that count values, and the functions that add one value. The bytes of each type are those of
+ * docs/FORMAT.md, "What values are hashed as".
  */
 #include "expanded.h"
 #include "group.h"
@@ -15,10 +15,10 @@
 #include "utils/timestamp.h"
 #include "utils/uuid.h"
 
-/* From 1970-01-01, from which others count, to the server's 2000-01-01. */
+/* The days from 1970-01-01, from which other programs count, to the server's 2000-01-01. */
 #define DAYS_BETWEEN (POSTGRES_EPOCH_JDATE - UNIX_EPOCH_JDATE)
 
-/* The bytes that a value counts by. */
+/* The bytes that are hashed for a value. */
 typedef struct Value
 {
 	const uint8 *bytes;
@@ -33,7 +33,7 @@ set_bytes(Value *value, const void *bytes, size_t size)
 	value->size = size;
 }
 
-/* Eight bytes, the lowest first. */
+/* Eight bytes, little-endian. */
 static void
 set_word(Value *value, uint64 word)
 {
@@ -44,7 +44,7 @@ set_word(Value *value, uint64 word)
 	set_bytes(value, &value->word, sizeof(value->word));
 }
 
-/* A number as those that are equal to it: -0.0 as 0.0, and each NaN as one. */
+/* A number in the form that all numbers equal to it have: -0.0 as 0.0, and one NaN for all. */
 static void
 set_float(Value *value, float8 number)
 {
@@ -72,7 +72,8 @@ set_date(Value *value, DateADT date)
 		set_word(value, (uint64) ((int64) date + DAYS_BETWEEN));
 }
 
-/* Microseconds since 1970-01-01; those past 2^63 as an integer past it is, by its own eight bytes. */
+/* Microseconds since 1970-01-01. Times past 2^63 microseconds are hashed like integers past it, by the eight bytes of an
+ * unsigned number. */
 static void
 set_timestamp(Value *value, Timestamp timestamp)
 {
@@ -82,7 +83,7 @@ set_timestamp(Value *value, Timestamp timestamp)
 		set_word(value, (uint64) timestamp + (uint64) DAYS_BETWEEN * (uint64) USECS_PER_DAY);
 }
 
-/* A text counts by its bytes in UTF-8, whatever the encoding of the database. */
+/* A text is hashed as its bytes in UTF-8, in databases of any encoding. */
 static void
 set_text(Value *value, text *own)
 {
@@ -98,7 +99,7 @@ set_bytea(Value *value, bytea *own)
 	set_bytes(value, BYTES(own), LENGTH(own));
 }
 
-/* Of a type: the step that adds the value of a row, and the function that adds a value to a sketch; neither adds a NULL. */
+/* For a type: the step that adds the value of a row, and the function that adds a value to a sketch. Neither adds NULL. */
 #define VALUE_FUNCTIONS(name, set) \
 	PG_FUNCTION_INFO_V1(hll_pg_add_##name##_trans); \
 	Datum \
@@ -141,9 +142,9 @@ VALUE_FUNCTIONS(date, set_date(&value, PG_GETARG_DATEADT(1)))
 VALUE_FUNCTIONS(timestamp, set_timestamp(&value, PG_GETARG_TIMESTAMP(1)))
 VALUE_FUNCTIONS(uuid, set_bytes(&value, PG_GETARG_UUID_P(1)->data, UUID_LEN))
 
-/* ---- what is refused */
+/* ---- types that are rejected */
 
-/* Of a type that is refused: the step and the addition. */
+/* For a type that is rejected: the step and the addition. */
 #define REFUSING_FUNCTIONS(name, refuse) \
 	PG_FUNCTION_INFO_V1(hll_pg_add_##name##_trans); \
 	Datum \
@@ -171,5 +172,5 @@ refuse_sketch(void)
 }
 
 REFUSING_FUNCTIONS(sketch, refuse_sketch())
-/* All other types are refused, numeric among them, which would become a float8 by itself, and lose digits. */
+/* All other types are rejected. One of them is numeric, which would otherwise become a float8 implicitly and lose digits. */
 REFUSING_FUNCTIONS(other, refuse_type(get_fn_expr_argtype(fcinfo->flinfo, 1)))

@@ -8,7 +8,7 @@
 
 /* ---- arguments */
 
-/* What stands for the arguments after the first. */
+/* What is used for missing arguments after the first. */
 typedef struct Options {
     const char *lg_k_name;
     uint8_t lg_k;
@@ -17,7 +17,7 @@ typedef struct Options {
 
 static const Options of_values = {"lg_k", 12, 8}, of_images = {"lg_max_k", 0, 0};
 
-/* Whether the arguments after the first are right, and those of all rows before. */
+/* Returns whether the arguments after the first are right and the same as in all rows before. */
 static bool options_in(sqlite3_context *context, int n, sqlite3_value **values, const Options *options, Group *group)
 {
     uint8_t lg_k = options->lg_k, width = options->width;
@@ -38,7 +38,7 @@ static bool options_in(sqlite3_context *context, int n, sqlite3_value **values, 
     return true;
 }
 
-/* The group for the next row; NULL where an error was answered, now or before. */
+/* Returns the group for the next row, or NULL if an error was returned, now or before. */
 static Group *next_row(sqlite3_context *context, int n, sqlite3_value **values, const Options *options)
 {
     Group *group = sqlite3_aggregate_context(context, sizeof *group);
@@ -56,7 +56,7 @@ static Group *next_row(sqlite3_context *context, int n, sqlite3_value **values, 
 
 /* ---- values */
 
-/* (A compiler makes one store of these, and not of a loop.) */
+/* (Compilers turn these into one store, but not a loop.) */
 static void put_eight(uint8_t *eight, uint64_t word)
 {
     eight[0] = (uint8_t)word;
@@ -69,7 +69,7 @@ static void put_eight(uint8_t *eight, uint64_t word)
     eight[7] = (uint8_t)(word >> 56);
 }
 
-/* The binary64 that stands for a real: 0.0 for -0.0. SQLite has no NaN: it keeps NULL in its place. */
+/* The binary64 of a real: 0.0 for -0.0. SQLite has no NaN; it stores NULL instead. */
 static uint64_t word_of_real(double real)
 {
     uint64_t word;
@@ -79,8 +79,8 @@ static uint64_t word_of_real(double real)
     return word;
 }
 
-/* The bytes that a value of this type counts by (docs/FORMAT.md, "What values are hashed as"): of a number eight, the
- * lowest first. */
+/* The bytes that are hashed for a value of this type (docs/FORMAT.md, "What values are hashed as"). Numbers are
+ * little-endian. */
 static bool hashed_in(sqlite3_context *context, sqlite3_value *value, int type, uint8_t *eight, hll_bytes *bytes)
 {
     if (type == SQLITE_TEXT || type == SQLITE_BLOB)
@@ -132,7 +132,7 @@ static void step_values(sqlite3_context *context, int n, sqlite3_value **values)
         refuse(context, status, "");
 }
 
-/* Answers the image of a group, unless nothing came or an error was answered. */
+/* Returns the image of a group to SQLite, unless nothing came or an error was returned. */
 static void finish(sqlite3_context *context)
 {
     Group *group = sqlite3_aggregate_context(context, 0);
@@ -165,7 +165,7 @@ static const Entry entries[] = {
     {"hll_add_agg", step_values},
 };
 
-/* Each takes one argument to three. None can leave a row out again, so none is a window function. */
+/* Each has one to three arguments. None can take a row out again, so none is a window function. */
 int register_aggregates(sqlite3 *db)
 {
     int code = SQLITE_OK, n;

@@ -1,6 +1,6 @@
 /* SPDX-License-Identifier: Apache-2.0 */
 /*
- * The entry of the extension, and what its functions share.
+ * The entry point of the extension, and what its functions share.
  */
 #include "hll_sqlite.h"
 
@@ -10,7 +10,7 @@ SQLITE_EXTENSION_INIT1
 
 /* ---- errors */
 
-/* Answers an error with a text of SQLite's, which it gives back. */
+/* Returns an error with a text allocated by SQLite, which is freed. */
 static void answer_error(sqlite3_context *context, char *text)
 {
     if (text == NULL)
@@ -31,7 +31,7 @@ void refuse(sqlite3_context *context, hll_status status, const char *place)
         answer_error(context, sqlite3_mprintf(format, place, hll_reason(status)));
 }
 
-/* The same, of an image with a number: "argument" 2, "row" 17. */
+/* The error of an image with a number: "argument" 2, "row" 17. */
 void refuse_number(sqlite3_context *context, hll_status status, const char *what, sqlite3_int64 number)
 {
     char place[64];
@@ -40,7 +40,7 @@ void refuse_number(sqlite3_context *context, hll_status status, const char *what
     refuse(context, status, place);
 }
 
-/* Of bytes after an image. */
+/* The error of bytes after an image. */
 static void refuse_more(sqlite3_context *context, const char *what, sqlite3_int64 number, size_t more)
 {
     char place[64] = "";
@@ -52,7 +52,7 @@ static void refuse_more(sqlite3_context *context, const char *what, sqlite3_int6
                                           more == 1 ? " follows" : "s follow"));
 }
 
-/* An argument that is no such number; the format has its name and, if it tells it, the number. */
+/* The error of an argument that is not such a number. The format has its name and optionally the number. */
 void refuse_argument(sqlite3_context *context, const char *format, const char *name, sqlite3_int64 number)
 {
     answer_error(context, sqlite3_mprintf(format, name, number));
@@ -68,7 +68,7 @@ void refuse_other_lg_k(sqlite3_context *context, const char *what, sqlite3_int64
 
 /* ---- arguments */
 
-/* The bytes of a text or a blob. */
+/* Returns the bytes of a text or a blob. */
 bool bytes_in(sqlite3_context *context, sqlite3_value *value, hll_bytes *bytes)
 {
     bytes->bytes = sqlite3_value_type(value) == SQLITE_TEXT ? sqlite3_value_text(value) : sqlite3_value_blob(value);
@@ -90,13 +90,13 @@ bool is_empty_table(hll_bytes bytes)
            memcmp(bytes.bytes + 8, places, sizeof places) == 0;
 }
 
-/* Where no byte follows an image: without its last byte it is truncated, which its header tells. `own` is its length. */
+/* If no byte follows an image, the image without its last byte is truncated, as its header shows. `own` is its length. */
 static hll_status whole_status(hll_bytes image, size_t *own)
 {
     hll_status status;
 
     *own = image.len;
-    if (hll_image_header_size(image.bytes, image.len) == image.len) /* nearly always, and quicker */
+    if (hll_image_header_size(image.bytes, image.len) == image.len) /* the usual case, and faster */
         return HLL_OK;
     status = image.len == 0 ? HLL_TRUNCATED : hll_image_size(image.bytes, image.len - 1, own);
     if (status != HLL_OK || is_empty_table(image))
@@ -123,7 +123,7 @@ bool image_in(sqlite3_context *context, sqlite3_value *value, const char *what, 
     return status == HLL_OK && own == image->len;
 }
 
-/* A number that is an integer, as it stands. */
+/* Returns a number that is an integer. */
 static bool integer_in(sqlite3_context *context, sqlite3_value *value, const char *name, sqlite3_int64 *number)
 {
     int type = sqlite3_value_type(value);
@@ -181,7 +181,7 @@ uint8_t named_lg_k(hll_bytes image)
     return lg_k == 0 ? 4 : lg_k;
 }
 
-/* ---- what is written */
+/* ---- images that are written */
 
 hll_status write_image(Writer *writer, void *given, size_t room, Output *out)
 {
@@ -205,7 +205,7 @@ void answer_image(sqlite3_context *context, const Output *out)
     sqlite3_result_blob64(context, out->bytes, out->size, sqlite3_free);
 }
 
-/* ---- the entry: SQLite makes its name of the file's, hll_sketches.so */
+/* ---- the entry point, whose name SQLite makes from that of the file, hll_sketches.so */
 
 int sqlite3_hllsketches_init(sqlite3 *db, char **error, const sqlite3_api_routines *api);
 

@@ -1,6 +1,6 @@
 /* SPDX-License-Identifier: Apache-2.0 */
 /*
- * Functions of one image or two. Each is one call of the library.
+ * Functions of one or two images. Each makes one call of the library.
  */
 #include "group.h"
 
@@ -13,7 +13,7 @@
 /* A function whose arguments are not NULL. */
 typedef void Function(sqlite3_context *context, int n, sqlite3_value **values);
 
-/* What a call of the library is given. */
+/* The arguments of a call of the library. */
 typedef struct Call {
     hll_bytes image;
     hll_bytes other;
@@ -24,13 +24,13 @@ typedef struct Call {
 
 #define IMAGE(bytes_) (bytes_).bytes, (bytes_).len
 
-/* A guess at what an image needs that changes its width or lg_k: only many exceptions of four bits need more. */
+/* A guess at the size of an image at another width or lg_k. Only many exceptions of 4-bit registers need more. */
 static size_t changed_room(hll_bytes image)
 {
     return MIN(2 * image.len + 64, HLL_IMAGE_MAX(21));
 }
 
-/* Answers the image that a call writes, or the error of its refusal. */
+/* Returns the image that a call writes to SQLite, or the error of the call. */
 static void answer_written(sqlite3_context *context, Writer *writer, Call *call, size_t room)
 {
     Output out;
@@ -127,7 +127,7 @@ static bool two_images_in(sqlite3_context *context, sqlite3_value **values, Call
            image_in(context, values[1], "argument", 2, &call->other);
 }
 
-/* Joins both images to a new state; failed is the number of the one that is rejected, from 0. */
+/* Merges both images into a new state. `failed` is the number of the rejected image, from 0. */
 static hll_status join_both(Group *state, Call *call)
 {
     hll_status status = add_image(state, call->image);
@@ -139,7 +139,7 @@ static hll_status join_both(Group *state, Call *call)
     return add_image(state, call->other);
 }
 
-/* The union, at the lg_k that both have, or under the bound that is given. */
+/* The union, at the lg_k of both, or under the given bound. */
 static void merge(sqlite3_context *context, int n, sqlite3_value **values)
 {
     Call call;
@@ -179,7 +179,8 @@ static void agree(sqlite3_context *context, int n, sqlite3_value **values)
 
 /* ---- what an image says */
 
-/* The word of the reason why a value is no image in `fault`, NULL where it is one. Answers false where it answered an error. */
+/* Writes the word of the reason why a value is not an image into `fault`, or NULL if it is one. Returns false if it returned
+ * an error to SQLite. */
 static bool fault_of(sqlite3_context *context, sqlite3_value *value, const char **fault)
 {
     hll_bytes bytes;
@@ -222,7 +223,7 @@ static void is_image(sqlite3_context *context, int n, sqlite3_value **values)
         sqlite3_result_int(context, found == NULL);
 }
 
-/* The image with which bytes begin. */
+/* Returns the image with which bytes begin. */
 static void first_image(sqlite3_context *context, int n, sqlite3_value **values)
 {
     hll_bytes bytes;
@@ -243,7 +244,7 @@ static void first_image(sqlite3_context *context, int n, sqlite3_value **values)
         refuse(context, status, "");
 }
 
-/* Answers a text of SQLite's. */
+/* Returns a text allocated by SQLite. */
 static void answer_text(sqlite3_context *context, char *text)
 {
     if (text == NULL)
@@ -295,7 +296,7 @@ static void estimate(sqlite3_context *context, int n, sqlite3_value **values)
         sqlite3_result_double(context, found.estimate);
 }
 
-/* The estimate that the writer kept in the image, or NULL. */
+/* Returns the HIP estimate in the image, or NULL. */
 static void hip_estimate(sqlite3_context *context, int n, sqlite3_value **values)
 {
     hll_bytes image;
@@ -312,8 +313,8 @@ static void hip_estimate(sqlite3_context *context, int n, sqlite3_value **values
         refuse(context, status, "");
 }
 
-/* A number with all its digits, and a point whatever the locale. JSON has no infinity: it is written as a number that no
- * binary64 reaches. */
+/* Writes a number with all its digits, and with a point in any locale. JSON has no infinity: it is written as a number
+ * greater than every binary64. */
 static void put_number(char *text, size_t room, double number)
 {
     char *point;
@@ -375,7 +376,7 @@ static const Entry entries[] = {
     {"hll_estimate_bounds", 2, estimate_bounds},
 };
 
-/* Calls the function of an entry, unless an argument is NULL: then the answer is NULL. */
+/* Calls the function of an entry. If an argument is NULL, the result is NULL. */
 static void call_strict(sqlite3_context *context, int n, sqlite3_value **values)
 {
     const Entry *entry = sqlite3_user_data(context);

@@ -3,18 +3,18 @@
 
 #define MIN(a, b) ((a) < (b) ? (a) : (b))
 
-/* A state of up to seven coupons needs no more. Most groups stay as small. */
+/* A state of up to seven coupons needs no more. Most groups stay that small. */
 #define FIRST_ROOM (HLL_STATE_NEW + 7 * 4)
 
 /* ---- memory */
 
-/* The bytes of a state that has registers. */
+/* Returns the bytes of a state that has registers. */
 static size_t registers_size(const Group *group)
 {
     return HLL_STATE_NEW + ((size_t)1 << hll_state_lg_k(group->state));
 }
 
-/* Gives the state so many bytes, and may move it. Where that fails, it stays as it is. */
+/* Resizes the state, which may move it. If that fails, the state is unchanged. */
 static hll_status resize(Group *group, size_t room)
 {
     uint8_t *state = sqlite3_realloc64(group->state, room);
@@ -26,7 +26,7 @@ static hll_status resize(Group *group, size_t room)
     return HLL_OK;
 }
 
-/* Makes the state: without an lg_k, one that takes that of what is joined to it. */
+/* Makes the state. Without an lg_k it gets that of what is merged into it. */
 static hll_status begin(Group *group)
 {
     hll_status status = resize(group, FIRST_ROOM);
@@ -34,13 +34,13 @@ static hll_status begin(Group *group)
     return status == HLL_OK ? hll_state_new(group->lg_k == 0 ? 4 : group->lg_k, group->state, group->room) : status;
 }
 
-/* Whether a state has registers, and room that only its coupons needed. */
+/* Returns whether a state has registers, and room that only its coupons needed. */
 static inline bool is_too_large(const Group *group)
 {
     return group->room > registers_size(group) && hll_state_stage(group->state) == HLL_REGISTERS;
 }
 
-/* Frees that room. (Where this fails, the state keeps it.) */
+/* Frees that room. (If this fails, the state keeps it.) */
 static void trim(Group *group)
 {
     (void)resize(group, registers_size(group));
@@ -80,7 +80,7 @@ hll_status add_image(Group *group, hll_bytes image)
     return status;
 }
 
-/* ---- the answer */
+/* ---- the result */
 
 static hll_status write_state(void *given, Output *out)
 {
@@ -93,7 +93,7 @@ static hll_status write_state(void *given, Output *out)
 
 hll_status write_group(Group *group, Output *out)
 {
-    /* (Registers of four bits with many exceptions need more.) */
+    /* (4-bit registers with many exceptions need more.) */
     return write_image(write_state, group, MIN(hll_state_size(group->state), registers_size(group)), out);
 }
 

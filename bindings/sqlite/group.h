@@ -1,6 +1,6 @@
 /* SPDX-License-Identifier: Apache-2.0 */
 /*
- * What an aggregate keeps of a group: a state of the library (hll.h, "states"), in memory of SQLite's. Each row is
+ * What an aggregate keeps of a group: a state of the library (hll.h, "states"), in memory allocated by SQLite. Each row is
  * added to it by one call.
  */
 #ifndef HLL_GROUP_H
@@ -11,14 +11,14 @@
 typedef struct Group {
     bool is_begun;
     bool has_failed;
-    uint8_t lg_k;           /* of a sketch of values; of a union the bound, or 0 where there is none */
-    uint8_t width;          /* of the answer; 0 for that of the images, or 8 where they differ */
-    sqlite3_int64 rows;     /* how many came, those with NULL among them */
+    uint8_t lg_k;           /* for a sketch of values its lg_k; for a union the bound, or 0 if there is none */
+    uint8_t width;          /* of the result; 0 for the width of the images, or 8 if they differ */
+    sqlite3_int64 rows;     /* the number of rows, including those with NULL */
     uint8_t *state;         /* NULL until a value or an image comes */
     size_t room;            /* of the state, in bytes */
 } Group;
 
-/* Adds what a row brings: HLL_OK, HLL_MEMORY, HLL_OTHER_LG_K, or why the image is rejected. */
+/* Adds the value or image of a row: returns HLL_OK, HLL_MEMORY, HLL_OTHER_LG_K, or why the image is rejected. */
 typedef hll_status Add(Group *group, hll_bytes bytes);
 
 Add add_value;

@@ -1,9 +1,8 @@
 /* SPDX-License-Identifier: Apache-2.0 */
 /*
- * What the files of the extension share: arguments, refusals as errors of SQLite, and room for an image.
- *
- * What the extension keeps is memory of SQLite's, so its limits count it, and a failure of it is SQLITE_NOMEM. A call of
- * the library takes memory by malloc while it runs, gives it all back, and answers HLL_MEMORY where that fails.
+ * What the files of the extension share: arguments, errors of SQLite, and room for an image. The extension allocates by
+ * SQLite, so SQLite's limits count its memory, and a failed allocation is SQLITE_NOMEM. A call of the library allocates by
+ * malloc while it runs, frees everything, and returns HLL_MEMORY if an allocation fails.
  */
 #ifndef HLL_SQLITE_H
 #define HLL_SQLITE_H
@@ -15,13 +14,15 @@
 
 SQLITE_EXTENSION_INIT3
 
-/* ---- arguments: each answers false where it has answered an error */
+/* ---- arguments: each function returns false if it has returned an error to SQLite */
 
 bool bytes_in(sqlite3_context *context, sqlite3_value *value, hll_bytes *bytes);
-/* An image without bytes after it. Where there are several, an error says which: "argument" 2, "row" 17; else NULL and 0. */
+/* Reads an image without bytes after it. If there are several images, an error says which: "argument" 2, "row" 17; otherwise
+ * NULL and 0. */
 bool image_in(sqlite3_context *context, sqlite3_value *value, const char *what, sqlite3_int64 number, hll_bytes *image);
 
-/* Whether bytes are an empty list with its eight places, as other libraries write it for updates. No reader looks at these. */
+/* Returns whether bytes are an empty list with its eight buckets, as other libraries write it in updatable form. No reader
+ * looks at the buckets. */
 bool is_empty_table(hll_bytes bytes);
 
 bool lg_k_in(sqlite3_context *context, sqlite3_value *value, const char *name, uint8_t *lg_k);
@@ -30,21 +31,22 @@ bool deviations_in(sqlite3_context *context, sqlite3_value *value, int *deviatio
 
 /* ---- errors */
 
-/* The error of a status that is not HLL_OK; `place` says which image was refused, where there are several. */
+/* Returns the error of a status that is not HLL_OK. `place` says which image was rejected, if there are several. */
 void refuse(sqlite3_context *context, hll_status status, const char *place);
 void refuse_number(sqlite3_context *context, hll_status status, const char *what, sqlite3_int64 number);
 void refuse_argument(sqlite3_context *context, const char *format, const char *name, sqlite3_int64 number);
 
-/* The error of sketches of different lg_k that are merged without a bound: the second is that of this argument or row; `call`
- * is the start of a call that merges them. */
+/* Returns the error of sketches of different lg_k that are merged without a bound. The second sketch is that of this
+ * argument or row. `call` is the start of a call that merges them. */
 void refuse_other_lg_k(sqlite3_context *context, const char *what, sqlite3_int64 number, int lg_k, int other, const char *call);
 
-/* The lg_k that the header of an image names; where the bytes are no image, any that is in range: reading them refuses them. */
+/* Returns the lg_k in the header of an image. If the bytes are not an image, it is any number in range; reading them reports
+ * the error. */
 uint8_t named_lg_k(hll_bytes image);
 
-/* ---- what is written */
+/* ---- images that are written */
 
-/* An image, or the room for one; memory of SQLite's. */
+/* An image, or the room for one, in memory allocated by SQLite. */
 typedef struct Output {
     uint8_t *bytes;
     size_t room;
@@ -53,22 +55,22 @@ typedef struct Output {
 
 #define OUTPUT(out) (out)->bytes, (out)->room, &(out)->size
 
-/* A call of the library that writes an image of what it is given. */
+/* A call of the library that writes an image. */
 typedef hll_status Writer(void *given, Output *out);
 
-/* Has an image written. The room is a guess: where the call needs more, it is made again. On any other status than HLL_OK
- * there is no memory to give back. */
+/* Calls it to write an image. The room is a guess: if the call needs more, it is made again. On any other status than HLL_OK
+ * there is no memory to free. */
 hll_status write_image(Writer *writer, void *given, size_t room, Output *out);
 
-/* The answer of the function: the image, whose memory goes over to SQLite. */
+/* Returns the image as the result of the function. SQLite becomes the owner of its memory. */
 void answer_image(sqlite3_context *context, const Output *out);
 
-/* ---- what the files register */
+/* ---- registration */
 
 int register_functions(sqlite3 *db);
 int register_aggregates(sqlite3 *db);
 
-/* All are deterministic, and do no harm from a schema of a stranger's. */
+/* All functions are deterministic and innocuous: a schema from an untrusted source may call them. */
 #define HLL_FLAGS (SQLITE_UTF8 | SQLITE_DETERMINISTIC | SQLITE_INNOCUOUS)
 
 #endif
