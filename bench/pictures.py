@@ -54,7 +54,7 @@ LAYERS = (
     (3, 1, 0, 12, PROVED, "Sketch",
         "a list, then a set, then registers; values are added, and it is folded to fewer registers"),
     (4, 1, 0, 6, PROVED, "Coupons", "the hash of a value; lists, sets, folds, probing"),
-    (4, 1, 6, 12, PROVED, "Registers", "of eight, six and four bits; merges, conversions"),
+    (4, 1, 6, 12, PROVED, "Registers", "of 8, 6 and 4 bits; merges, conversions"),
     (5, 1, 0, 12, PROVED, "Images",
         "bytes are read completely or rejected with a reason; what is written is read back unchanged"),
     (6, 1, 0, 12, TRUSTED, "Toolchain", "the prover and compilers, the C library, the processor"),
