@@ -47,8 +47,8 @@ pub data AddsToState (InRange : Type 0) (cs : List ℕ) (old new : List (List �
 
 -- ---- reading
 
--- why reading a state fails: an argument is out of range or the elements are not a state, a register is above 63, or an
--- allocation fails
+-- why reading a state fails: an argument is out of range or the elements are not a state; the state means a sketch that is not
+-- legal, as a register is above 63 or a coupon has the value 0; or an allocation fails
 pub data RefusesState (InRange : Type 0) (elements : List (List ℕ)) : Reason → Type 0 where
   state_argument : (InRange × IsState elements → ⊥) → RefusesState InRange elements Argument
   state_register : InRange → OfState elements (λ x. IsLegal x → ⊥) → RefusesState InRange elements Register
@@ -99,8 +99,8 @@ pub data JoinsImage (lg_max_k : ℕ) (image : List ℕ) (old new : List (List �
   image_not_read : {r : Reason} → RefusesWith (IsStateUnder lg_max_k old) image r → (r ≡ Memory → BorrowNeedsMemory image) → new ≡ old → size_new ≡ size_old
       → JoinsImage lg_max_k image old new size_old size_new (number_of r)
 
--- The sketch of another state is merged in; or an argument is out of range, one of the two is not a state or a register of the
--- other is above 63, and nothing changes.
+-- The sketch of another state is merged in; or an argument is out of range, one of the two is not a state, or the other one
+-- means a sketch that is not legal, and nothing changes.
 pub data JoinsState (lg_max_k : ℕ) (other old new : List (List ℕ)) (size_old size_new : ℕ) : ℕ → Type 0 where
   state_read : {code : ℕ} → (h : Header) → HasHeader other h → JoinsSketch lg_max_k h.widths (sketch_in h (drop 10 other)) old new size_old size_new code
       → JoinsState lg_max_k other old new size_old size_new code

@@ -1,6 +1,6 @@
 -- SPDX-License-Identifier: Apache-2.0
 -- 4-bit registers as they are stored: nibbles above a minimum, and a map of exceptions if there are any (docs/MODEL.md,
--- "Registers of four bits").
+-- "4-bit registers").
 use Rattle.std.specs.Prelude.{◌≡◌, ◌≢◌, ℕ, Bool, true, ◌+◌, ◌-◌, ◌*◌, ◌^◌, ◌<◌, ◌≤◌, ◌==◌, nat_le, if◌then◌else◌, List, length, map, slice_index, count_by, ◌++◌, All, Option, Some, None, Box}
 use Rattle.std.specs.List.{fold, range_with_len}
 use Rattle.std.specs.FinSet.{empty}

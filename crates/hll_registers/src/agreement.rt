@@ -1,6 +1,5 @@
 // SPDX-License-Identifier: Apache-2.0
-//! Checks that nibbles above a minimum and exceptions agree, as an image has to (docs/MODEL.md, "Registers of four
-//! bits"). The exceptions have distinct slots. If each of their slots has a nibble of 15, and the number of such
+//! Checks that nibbles above a minimum and exceptions agree, as an image has to (docs/MODEL.md, "4-bit registers"). The exceptions have distinct slots. If each of their slots has a nibble of 15, and the number of such
 //! nibbles is the number of exceptions, then no other slot has one. So the map needs no look-ups.
 ghost use Rattle.std.specs.Prelude.{◌≡◌, ◌+◌, ◌*◌, ◌^◌, ◌<◌, ◌≤◌, ℕ, length, true, false, Some};
 ghost use Rattle.hll_coupons.specs.AuxMap.{value_in, IsMap};

@@ -1,6 +1,5 @@
 // SPDX-License-Identifier: Apache-2.0
-//! A slice of nibbles above a minimum, with a map of exceptions, as 4-bit registers (docs/MODEL.md, "Registers of four
-//! bits").
+//! A slice of nibbles above a minimum, with a map of exceptions, as 4-bit registers (docs/MODEL.md, "4-bit registers").
 ghost use Rattle.std.specs.Prelude.{◌≡◌, ◌*◌, ◌^◌, ◌<◌, ◌≤◌, ◌==◌, ◌↔◌, ℕ, length, IsTrue, IfSome, IfOk, IfErr, OnOk};
 ghost use Rattle.std.specs.List.{list_all};
 ghost use Rattle.hll_base.specs.declared.error.Reason.TheVariants.{Memory, Register};
