@@ -4,11 +4,11 @@
 #
 #     examples/merge_folder.sh FOLDER [BOUND [WIDTH [FILES]]] > merged.bin
 #
-# Each group of FILES files (500) becomes one plan, with a union of bound BOUND (12) and WIDTH (8) bits; as many plans run
-# at a time as there are processors. What they print is the `image` lines of the last plan, whose image gets the fields from
-# which other libraries estimate. docs/OPERATING.md says why the groups make no difference. Where a file is no sketch, it says
-# `FILE: ` and why on standard error, for one file of each group; then nothing is written and the status is 1. Needs sh,
-# find, sort, xargs, od and xxd.
+# Each group of FILES files (500) becomes one plan, with a union of bound BOUND (12) and WIDTH (8) bits. One plan runs on each
+# processor at a time. Their output is the `image` lines of the last plan, whose image gets the fields that other libraries
+# estimate from. docs/OPERATING.md says why the grouping makes no difference. If a file is not a sketch, the script prints
+# `FILE: ` and the reason on standard error, for one file of each group; then it writes nothing and ends with status 1. Needs
+# sh, find, sort, xargs, od and xxd.
 set -eu
 
 [ $# -ge 1 ] && [ -d "$1" ] || {
@@ -20,7 +20,7 @@ BOUND=${2:-12}
 WIDTH=${3:-8}
 files=${4:-500}
 root=$(CDPATH='' cd -- "$(dirname -- "$0")/.." && pwd -P)
-# those of a checkout, once make has built them, or installed ones
+# the programs in the checkout, if make has built them, or installed ones
 MERGE=$(command -v "$root/bin/hll_merge" || command -v hll_merge) && WORDS=$(command -v "$root/bin/hll_estimator_fields" || command -v hll_estimator_fields) || {
     echo "merge_folder.sh: no hll_merge or hll_estimator_fields: run make in $root, or install hll-sketches" >&2
     exit 2
@@ -42,19 +42,19 @@ sort -z "$WORK/files" | xargs -0 -n "$files" -P "$(nproc)" sh -c '
             echo
         done
         echo "union $# $BOUND $WIDTH"
-    } | "$MERGE" >"$group" 2>"$group.refusal"; then
-        rm "$group.refusal"
+    } | "$MERGE" >"$group" 2>"$group.error"; then
+        rm "$group.error"
     else
         # the number of the line is that of the file
-        refusal=$(cat "$group.refusal")
-        line=${refusal#line }
+        error=$(cat "$group.error")
+        line=${error#line }
         line=${line%%:*}
         if [ "$line" -ge 1 ] 2>/dev/null && [ "$line" -le $# ]; then
             shift $((line - 1))
-            [ -s "$1" ] || refusal="line $line: image truncated"
-            echo "$1: ${refusal#*: }" >&2
+            [ -s "$1" ] || error="line $line: image truncated"
+            echo "$1: ${error#*: }" >&2
         else
-            echo "$refusal" >&2
+            echo "$error" >&2
         fi
         exit 1
     fi
