@@ -92,8 +92,8 @@
  *       unchanged, for all inputs of a caller who ensures the above.
  *     - If an image is merged into registers that are not all 0, and these are written as an image, the result is their union,
  *       with the estimator fields set.
- *     - What a state means after a join, for states whose registers, if they have registers, are not all 0. No call leaves
- *       a state whose registers are all 0.
+ *     - What a state means after a merge (hll_state_join), for states whose registers, if they have registers, are not all
+ *       0. No call leaves a state whose registers are all 0.
  *     - The estimate from registers (of images, registers, histograms and states): it is the double nearest to a number that
  *       equals the estimator's value within one part in 2^40 and 2^-32, and that never falls when a register is raised.
  *     That the order, repetition and grouping of canonical images under one lg_max_k make no difference follows from laws that
@@ -381,10 +381,10 @@ hll_status hll_registers_image(const uint8_t *registers, size_t count, unsigned 
  * is needed, so that a loop grows a few times only, and at most HLL_STATE_MOST. The bytes may be moved, and need no alignment.
  * They are for this version of the library, on processors of either byte order: store images in files and columns, not states.
  *
- * The image of a state is that of an empty sketch to which everything was added, as hll_image_add does, and joined, as
- * hll_images_union does. Without values it is that of an empty list. If the bytes are not a state, a call returns
- * HLL_ARGUMENT. If other code changed the bytes, a call returns something, but reads and writes nothing outside the room; a
- * register above 63 is HLL_REGISTER.
+ * The image of a state is that of an empty sketch to which all values were added, as hll_image_add does, and all sketches
+ * were merged, as hll_images_union does. Without values it is that of an empty list. If the bytes are not a state, a call
+ * returns HLL_ARGUMENT. If other code changed the bytes, a call returns something, but reads and writes nothing outside the
+ * room; a register above 63 is HLL_REGISTER.
  *
  * A state takes 40 bytes, and four for each coupon. It takes more if values repeat, or if it is close to registers: coupons are
  * sorted in place, and become registers next to them.
@@ -414,13 +414,13 @@ hll_status hll_state_add_value(void *state, size_t room, size_t *size, const uin
  * Returns HLL_OK, HLL_ARGUMENT or HLL_BUFFER. Allocates nothing. */
 hll_status hll_state_add_coupons(void *state, size_t room, size_t *size, const uint32_t *coupons, size_t n);
 
-/* Joins the sketch of an image to a state: at each slot the state gets the greater value of both, at the smaller lg_k, as in
+/* Merges the sketch of an image into a state: at each slot the state gets the greater value of both, at the smaller lg_k, as in
  * hll_images_union with the lg_k of the state as its lg_max_k. The state keeps the smaller lg_k. An empty image adds nothing.
  *
- *     lg_max_k 0     Only sketches of one lg_k are joined. If the state has values, and the image has values of another lg_k,
+ *     lg_max_k 0     Only sketches of one lg_k are merged. If the state has values, and the image has values of another lg_k,
  *                    the call returns HLL_OTHER_LG_K. A state without values takes the lg_k of the first image with values,
  *                    and until then the greatest lg_k of the empty images: make it with hll_state_new(4, ..).
- *     lg_max_k 4-21  Images of any lg_k are joined. Make the state with hll_state_new(lg_max_k, ..). HLL_ARGUMENT if
+ *     lg_max_k 4-21  Images of any lg_k are merged. Make the state with hll_state_new(lg_max_k, ..). HLL_ARGUMENT if
  *                    lg_max_k is below the lg_k of the state.
  *
  * On HLL_BUFFER *size bytes are enough for the same call, at most HLL_STATE_MOST of the greater lg_k. A loop over images:
@@ -431,8 +431,8 @@ hll_status hll_state_add_coupons(void *state, size_t room, size_t *size, const u
  * Returns HLL_OK, 1 to 11, HLL_ARGUMENT, HLL_MEMORY, HLL_BUFFER or HLL_OTHER_LG_K. Allocates as hll_image_check does. */
 hll_status hll_state_join(unsigned lg_max_k, void *state, size_t room, size_t *size, const uint8_t *image, size_t len);
 
-/* Joins the sketch of another state, as hll_state_join joins that of an image. The bytes of the other state may change, but not
- * its sketch. The two must not overlap.
+/* Merges the sketch of another state into a state, as hll_state_join merges that of an image. The bytes of the other state may
+ * change, but not its sketch. The two must not overlap.
  * Returns HLL_OK, HLL_REGISTER, HLL_ARGUMENT, HLL_BUFFER or HLL_OTHER_LG_K. Allocates nothing. */
 hll_status hll_state_join_state(unsigned lg_max_k, void *state, size_t room, size_t *size, void *other,
                                 size_t other_room);
@@ -589,8 +589,8 @@ static inline uint8_t hll_state_lg_k(const void *state)
     return hll_state_number(state, 1) & 31;
 }
 
-/* Returns the width of the images that were joined to a state, 4, 6 or 8: of those with values or, if none has values, of all.
- * Returns 8 if none was joined, or if their widths differ. */
+/* Returns the width of the images that were merged into a state, 4, 6 or 8: of those with values or, if none has values, of
+ * all. Returns 8 if none was merged, or if their widths differ. */
 static inline uint8_t hll_state_width(const void *state)
 {
     uint32_t widths = hll_state_number(state, 2) & 7;

@@ -212,7 +212,7 @@ class state {
         });
     }
 
-    /// Joins another state, whose bytes are reordered.
+    /// Merges another state, whose bytes are reordered.
     hll_status join_reordered(unsigned lg_max_k, state &other)
     {
         other.start();

@@ -177,7 +177,7 @@ pub(crate) fn state_join(lg_max_k: u8, state: &mut [u8], image: &[u8]) -> (Statu
     (status, size)
 }
 
-/// Joins another state, whose bytes may change.
+/// Merges another state, whose bytes may change.
 pub(crate) fn state_join_state(lg_max_k: u8, state: &mut [u8], other: &mut [u8]) -> (Status, usize) {
     let mut size = 0;
     let status = unsafe {
