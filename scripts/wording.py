@@ -43,7 +43,7 @@ TOKENS = re.compile(r'/\*.*?\*/|//[^\n]*|\'(?:\\.|[^\'\\\n])\'|"((?:\\.|[^"\\])*
 BETWEEN = re.compile(r'"\s+"')
 COMMENTS = re.compile(r'"(?:\\.|[^"\\])*"|(/\*.*?\*/|//[^\n]*)', re.S)
 DOC_LINE = re.compile(r"^\s*//[/!] ?(.*)$", re.M)
-CODE = re.compile(r"^```.*?^```$|^    .*$|`[^`\n]*`|\]\([^)\n]*\)", re.M | re.S)
+CODE = re.compile(r"^```.*?^```$|^    [^\n]*$|`[^`\n]*`|\]\([^)\n]*\)", re.M | re.S)
 
 
 def files(patterns):
@@ -142,7 +142,7 @@ def table_of_words():
 def words_not_written():
     """Each phrase that the table rules out, and what is written for it."""
     rows = re.findall(r"^\| ([^|]+) \| ([^|]+) \|$", table_of_words(), re.M)
-    return {phrase.strip(): wanted for wanted, phrases in rows[2:] for phrase in phrases.split(",")}
+    return {phrase.strip(): wanted for wanted, phrases in rows[1:] for phrase in phrases.split(",")}
 
 
 def faults(texts, words):

@@ -76,7 +76,7 @@
  *     - Inputs don't change during a call. If another thread writes an end meanwhile, the call may read outside the bytes.
  *     - malloc, realloc and free are of one allocator, and align to 16 bytes.
  *     - No call is made from a signal handler, or in a child that a process with threads forked, since calls use malloc.
- *     - An x86 processor has the instructions of x86-64-v2. On an older one, glibc's loader refuses the shared library; a
+ *     - An x86 processor has the instructions of x86-64-v2. On an older one, glibc's loader rejects the shared library; a
  *       program that is linked statically ends with SIGILL.
  *
  * Memory

@@ -138,7 +138,7 @@ inline const uint8_t *checked_bytes(const void *bytes, size_t size)
     return static_cast<const uint8_t *>(bytes);
 }
 
-/// Whether an image is refused.
+/// Returns whether a status means that an image was rejected.
 inline bool is_refusal(hll_status status)
 {
     return status >= HLL_TRUNCATED && status <= HLL_REGISTER;
@@ -566,8 +566,8 @@ class union_ : public detail::counter {
     }
     void update_image(const std::vector<uint8_t> &image) { update_image(image.data(), image.size()); }
 
-    /// Merges n images, all or none, in less time than one by one. An image_error has the index of the first that is
-    /// refused.
+    /// Merges n images, all or none, in less time than one by one. An image_error has the index of the first rejected
+    /// image.
     void update_images(const hll_bytes *images, size_t n)
     {
         detail::checked_bytes(images, n);

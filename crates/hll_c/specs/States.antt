@@ -1,5 +1,5 @@
 -- SPDX-License-Identifier: Apache-2.0
--- What calls do with states in memory of the caller (docs/MODEL.md, "States of a counter").
+-- What calls do with states in caller-owned memory (docs/MODEL.md, "States of a counter").
 use Rattle.std.specs.Prelude.{◌≡◌, ℕ, ◌*◌, ◌<◌, ◌≤◌, ◌==◌, ◌⊎◌, not, List, length, drop}
 use Rattle.hll_base.specs.Reason.{number_of}
 use Rattle.hll_base.specs.declared.error.Reason.{Reason}

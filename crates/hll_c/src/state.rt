@@ -1,5 +1,5 @@
 // SPDX-License-Identifier: Apache-2.0
-//! States of counters in memory of the caller.
+//! States of counters in caller-owned memory.
 ghost use Rattle.std.specs.Prelude.{◌≡◌, ◌≢◌, ℕ, ◌*◌, ◌-◌, ◌^◌, ◌<◌, ◌≤◌, ◌⊎◌, [], ◌∷◌, true, false, Some, None, length, map, take, drop, IfOk, IfErr};
 ghost use Rattle.hll_base.specs.declared.error.Reason.TheVariants.{Memory};
 ghost use Rattle.hll_base.specs.declared.error.Reason.TheVariants as reasons;

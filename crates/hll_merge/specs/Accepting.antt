@@ -1,6 +1,6 @@
 -- SPDX-License-Identifier: Apache-2.0
 -- Carries out the lines of a text on a stack of plans: which texts are accepted, and what the first fault of others is
--- (docs/PLAN.md, "Steps" and "Refusals"; docs/MODEL.md, "Plan texts").
+-- (docs/PLAN.md, "Steps" and "Faults"; docs/MODEL.md, "Plan texts").
 use Rattle.std.specs.Prelude.{◌≡◌, ◌≢◌, ℕ, ◌+◌, ◌<◌, ◌≤◌, ◌⊎◌, List, [], ◌∷◌, ◌++◌, length, Some, None, Ok, Err}
 use Rattle.std.specs.Str.Lines.{lines}
 use Rattle.hll_base.specs.declared.error.Reason.{Reason}

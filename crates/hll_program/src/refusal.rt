@@ -6,7 +6,7 @@ use hll_text::fault::{Fault, MergeError};
 use hll_text::refusal;
 use std::io::Write;
 
-/// Writes `line L: `, the words of the fault and LF (docs/PLAN.md, "Refusals").
+/// Writes `line L: `, the words of the fault and LF (docs/PLAN.md, "Faults").
 ///
 /// Fails with `Write` if the writer returns an error, or accepts no byte although there are some. Then it accepted only a
 /// prefix of the line, which may be empty. Allocates nothing, apart from what the stream's own writes allocate.

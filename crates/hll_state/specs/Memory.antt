@@ -1,5 +1,5 @@
 -- SPDX-License-Identifier: Apache-2.0
--- States in memory of the caller: a header in the first ten elements, and the coupons or registers after it
+-- States in caller-owned memory: a header in the first ten elements, and the coupons or registers after it
 -- (docs/MODEL.md, "States of a counter").
 use Rattle.std.specs.Prelude.{◌≡◌, ℕ, ◌+◌, ◌-◌, ◌≤◌, List, length, drop, Some}
 use Rattle.hll_sketch.specs.Value.{Sketch}

@@ -1,5 +1,5 @@
 // SPDX-License-Identifier: Apache-2.0
-//! A counter in memory of the caller. It holds coupons, an ascending run and a tail that is sorted into it, or registers.
+//! A counter in caller-owned memory. It holds coupons, an ascending run and a tail that is sorted into it, or registers.
 #![tactic(auto)]
 
 pub mod as_image;

@@ -1,5 +1,5 @@
 // SPDX-License-Identifier: Apache-2.0
-//! States in memory of the caller: reading and writing their headers, and making room for more coupons.
+//! States in caller-owned memory: reading and writing their headers, and making room for more coupons.
 ghost use Rattle.std.specs.Prelude.{◌≡◌, ℕ, ◌+◌, ◌-◌, ◌≤◌, true, false, length, drop, Some, IfSome, IfNone};
 ghost use Rattle.hll_sketch.specs.Value.{IsLgK};
 ghost use Rattle.hll_state.specs.Counter.{sketch_in, IsResolved};

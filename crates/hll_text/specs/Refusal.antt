@@ -1,5 +1,5 @@
 -- SPDX-License-Identifier: Apache-2.0
--- The line that is printed for an error (docs/PLAN.md, "Refusals").
+-- The line that is printed for an error (docs/PLAN.md, "Faults").
 use Rattle.std.specs.Prelude.{◌≡◌, ◌<◌, ℕ, length, List, [], ◌∷◌, ◌++◌, Option, Result, MatchResult, codes, decimal}
 use Rattle.std.specs.Io.KnownBytes.{Appends}
 use Rattle.hll_base.specs.Reason.{word_of}

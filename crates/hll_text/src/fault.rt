@@ -6,7 +6,7 @@ ghost use Rattle.hll_text.specs.declared.fault.Fault.TheVariants.{Memory};
 use hll_base::error::{Error, Reason};
 use std::alloc::{AllocError, AllocFailed};
 
-/// Why a plan is rejected (docs/PLAN.md, "Refusals"). Each fault has a number and a printed form.
+/// Why a plan is rejected (docs/PLAN.md, "Faults"). Each fault has a number and a printed form.
 #[derive(Clone, Copy, Debug, PartialEq, Eq)]
 pub enum Fault {
     /// 1, `syntax`: the line has none of the forms of a line.

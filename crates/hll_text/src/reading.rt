@@ -184,7 +184,7 @@ fn width_of(bits: u32) -> Result<HllType, Fault>
     }
 }
 
-/// The law of the faults of a line: they are `Syntax`, `Range` and `Hex` (docs/PLAN.md, "Refusals"). So `Memory`, `Read`,
+/// The law of the faults of a line: they are `Syntax`, `Range` and `Hex` (docs/PLAN.md, "Faults"). So `Memory`, `Read`,
 /// `Write`, `Image`, `Stack` and `Fold` come from elsewhere. Does nothing at run time.
 pub fn faults_of_lines()
     ensures { FaultsOfLines }

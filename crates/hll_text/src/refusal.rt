@@ -6,7 +6,7 @@ ghost use Rattle.hll_text.specs.Refusal.{Sends, refusal_line, words_of};
 use crate::fault::{Fault, MergeError};
 use std::io;
 
-/// Writes `line L: `, the words of the fault and LF (docs/PLAN.md, "Refusals").
+/// Writes `line L: `, the words of the fault and LF (docs/PLAN.md, "Faults").
 ///
 /// Fails with `Write` if the writer returns an error, or accepts no byte although there are some. Then it accepted only a
 /// prefix of the line, which may be empty. Allocates nothing, apart from what the stream's own writes allocate.
