@@ -2,13 +2,24 @@
 //! Makes, reads and merges images with the Rust crate `datasketches`, for tests/exchange.py. Each line of standard input is a
 //! request. The result is printed in hexadecimal, or `error` and its text.
 //!
-//!     values LG_K WIDTH FROM COUNT    the image of a sketch of COUNT 64-bit numbers from FROM on
+//!     integers LG_K WIDTH COUNT       the image of a sketch of COUNT 64-bit integers from 0 on
+//!     bytes LG_K WIDTH VALUE ..       the image of a sketch of byte strings
 //!     read IMAGE                      the image that is written again for the sketch of an image
 //!     union LG_MAX_K WIDTH IMAGE ..   the image of the union of images
 use datasketches::hll::{HllSketch, HllType, HllUnion};
 use std::error::Error;
 use std::fmt::Write;
+use std::hash::{Hash, Hasher};
 use std::io;
+
+/// A value that is hashed by its bytes alone.
+struct Bytes(Vec<u8>);
+
+impl Hash for Bytes {
+    fn hash<H: Hasher>(&self, state: &mut H) {
+        state.write(&self.0);
+    }
+}
 
 fn hll_type(width: &str) -> HllType {
     match width {
@@ -18,18 +29,29 @@ fn hll_type(width: &str) -> HllType {
     }
 }
 
-fn sketch_of(hex: &str) -> Result<HllSketch, Box<dyn Error>> {
-    let bytes: Result<Vec<u8>, _> = (0..hex.len()).step_by(2).map(|at| u8::from_str_radix(&hex[at..at + 2], 16)).collect();
-    Ok(HllSketch::deserialize(&bytes?)?)
+fn bytes_of(hex: &str) -> Result<Vec<u8>, Box<dyn Error>> {
+    let bytes: Result<_, _> = (0..hex.len()).step_by(2).map(|at| u8::from_str_radix(&hex[at..at + 2], 16)).collect();
+    Ok(bytes?)
 }
 
-fn sketch_of_values(lg_k: &str, width: &str, from: &str, count: &str) -> Result<HllSketch, Box<dyn Error>> {
+fn sketch_of_integers(lg_k: &str, width: &str, count: &str) -> Result<HllSketch, Box<dyn Error>> {
     let mut sketch = HllSketch::new(lg_k.parse()?, hll_type(width))?;
-    let from: u64 = from.parse()?;
-    for value in from..from + count.parse::<u64>()? {
+    for value in 0..count.parse::<u64>()? {
         sketch.update(value);
     }
     Ok(sketch)
+}
+
+fn sketch_of_bytes(lg_k: &str, width: &str, values: &[&str]) -> Result<HllSketch, Box<dyn Error>> {
+    let mut sketch = HllSketch::new(lg_k.parse()?, hll_type(width))?;
+    for value in values {
+        sketch.update(Bytes(bytes_of(value)?));
+    }
+    Ok(sketch)
+}
+
+fn sketch_of(image: &str) -> Result<HllSketch, Box<dyn Error>> {
+    Ok(HllSketch::deserialize(&bytes_of(image)?)?)
 }
 
 fn union_of(lg_max_k: &str, width: &str, images: &[&str]) -> Result<HllSketch, Box<dyn Error>> {
@@ -43,7 +65,8 @@ fn union_of(lg_max_k: &str, width: &str, images: &[&str]) -> Result<HllSketch, B
 fn result_of(request: &str) -> Result<HllSketch, Box<dyn Error>> {
     let words: Vec<&str> = request.split_whitespace().collect();
     match words[..] {
-        ["values", lg_k, width, from, count] => sketch_of_values(lg_k, width, from, count),
+        ["integers", lg_k, width, count] => sketch_of_integers(lg_k, width, count),
+        ["bytes", lg_k, width, ref values @ ..] => sketch_of_bytes(lg_k, width, values),
         ["read", image] => sketch_of(image),
         ["union", lg_max_k, width, ref images @ ..] => union_of(lg_max_k, width, images),
         _ => Err("not a request".into()),
