@@ -55,7 +55,7 @@ name = "beside"
 path = "%s"
 
 [dependencies]
-datasketches = { path = "%s" }
+datasketches = { path = "%s", features = ["hll"] }
 """
 
 

@@ -285,10 +285,11 @@ class Exchange:
             yield "registers"
 
     def exchange(self, case):
+        failed = self.failed
         self.report("the crate wrote", case.theirs, self.read_here(case))
         for image in case.images:
             self.report("this library wrote", image, self.read_there(case, image))
-        if len(case.coupons) <= MOST_MERGED:
+        if failed == self.failed and len(case.coupons) <= MOST_MERGED:
             self.merged.append(case)
 
     def merge_both(self, bound, width, images, coupons):
