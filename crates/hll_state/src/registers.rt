@@ -43,8 +43,8 @@ fn set(elements: &mut [[u8; 4]], slot: usize, register: u8)
     elements[slot / 4][slot % 4] = register;
 }
 
-/// Raises the register of the coupon's slot modulo 2^`lg_k` to the coupon's value, if that is greater. Returns whether the
-/// register rose.
+/// Sets the register of the coupon's slot modulo 2^`lg_k` to the maximum of the register and the coupon's value. Returns whether
+/// the register changed.
 ///
 /// There are 2^`lg_k` registers, four in an element; `lg_k` is 4 to 21.
 #[inline(always)]
