@@ -11,21 +11,22 @@
 //     week.update_image(image.data(), image.size());
 //     std::cout << week.estimate() << " distinct values\n";
 //
-// Values. A sketch and a union own their memory: 76 bytes with up to nine values, four bytes for each further value,
-// and one byte for each register later. Copies are independent. A sketch that was moved from is empty, and can be used
-// again.
+// Memory. A sketch and a union own their memory and free it: 76 bytes with up to nine values, four bytes for each
+// further value, and one byte for each register later. Copies are independent. A sketch that was moved from is empty,
+// and can be used again.
 //
 // Exceptions. After an exception the object is as it was before the call.
 //     hll::image_error         the bytes are not the image of a sketch; status() and reason() say why
-//     hll::lg_k_error          a union without a bound got a sketch of another lg_k
+//     hll::lg_k_error          a union without a bound was given a sketch of another lg_k
 //     std::invalid_argument    an argument is out of range
 //     std::bad_alloc           an allocation failed
 //
-// Threads. Const members can be called on one object by several threads at once, as on a container of the standard
-// library; other members need the object for themselves. The calls of hll.h that read a state may reorder its bytes, so
-// each const member reads a copy. With registers, the copy adds 10 to 20 % to the time of an estimate. Coupons that were
-// added since the last sort are sorted in each copy: at 300 values an estimate takes 4 microseconds, and 1 if the coupons
-// are sorted already (bench.cpp). Sorting at each update would cost more, as sketches are updated more often than read.
+// Threads. Several threads can call const members of one object at once, as with a container of the standard library.
+// While one thread calls another member, no other thread may use the object. The calls of hll.h that read a state may
+// reorder its bytes, so each const member reads a copy. With registers, the copy adds 10 to 20 % to the time of an
+// estimate. With coupons, each copy is sorted: at 300 values an estimate takes 4 microseconds, and 1 if the coupons are
+// sorted already (bench.cpp). Sorting at each update would cost more, because sketches are updated more often than
+// they are read.
 #ifndef HLL_HPP
 #define HLL_HPP
 
@@ -54,19 +55,19 @@ class image_error : public std::runtime_error {
   public:
     image_error(hll_status status, size_t size) : image_error(status, size, 0, "") {}
 
-    /// Of several images.
+    /// One of several images; `index` is its number, from 0.
     image_error(hll_status status, size_t size, size_t index)
         : image_error(status, size, index, "image " + std::to_string(index) + ": ")
     {
     }
 
-    /// HLL_TRUNCATED to HLL_REGISTER, the first check that the bytes fail.
+    /// Returns the first check that the bytes fail, HLL_TRUNCATED to HLL_REGISTER.
     hll_status status() const noexcept { return status_; }
 
-    /// The word of the status: "truncated", "family" and so on.
+    /// Returns the status as one word: "truncated", "family" and so on.
     const char *reason() const noexcept { return hll_reason(status_); }
 
-    /// Which of several images it is, from 0.
+    /// Returns the number of the image among several, from 0.
     size_t index() const noexcept { return index_; }
 
   private:
@@ -93,10 +94,10 @@ class lg_k_error : public std::runtime_error {
     {
     }
 
-    /// The lg_k of the union.
+    /// Returns the lg_k of the union.
     unsigned lg_k() const noexcept { return lg_k_; }
 
-    /// The lg_k of the sketch that was to be merged.
+    /// Returns the lg_k of the sketch that was to be merged.
     unsigned other_lg_k() const noexcept { return other_; }
 
   private:
@@ -104,7 +105,7 @@ class lg_k_error : public std::runtime_error {
 };
 
 /// Returns whether an untrusted image is quick to read: it has at most `most` bytes and an lg_k of at most `lg_k`. No
-/// other byte is looked at. The defaults accept every ordinary image of lg_k 12 (docs/OPERATING.md, "Images from
+/// other byte is read. The defaults accept every ordinary image of lg_k 12 (docs/OPERATING.md, "Images from
 /// others").
 inline bool is_small(const void *image, size_t size, unsigned lg_k = 12, size_t most = 8192)
 {
@@ -144,7 +145,7 @@ inline bool is_refusal(hll_status status)
     return status >= HLL_TRUNCATED && status <= HLL_REGISTER;
 }
 
-/// Throws what a status of a call on a state stands for.
+/// Throws the exception for a status of a call on a state, or nothing for HLL_OK.
 inline void check(hll_status status)
 {
     if (status == HLL_MEMORY)
@@ -153,8 +154,8 @@ inline void check(hll_status status)
         throw std::logic_error(std::string("the memory of a sketch is damaged: ") + hll_message(status));
 }
 
-/// Owns the bytes of a state (hll.h, "states"). No bytes stand for an empty sketch: a new one and one that was moved
-/// from own no memory.
+/// Owns the bytes of a state (hll.h, "states"). If it has no bytes, the sketch is empty: a new state and a state that
+/// was moved from own no memory.
 class state {
   public:
     explicit state(unsigned lg_k) : lg_k_(static_cast<uint8_t>(checked_lg_k(lg_k))) {}
@@ -178,7 +179,8 @@ class state {
     bool is_empty() const noexcept { return size() <= HLL_STATE_NEW; }
     bool has_registers() const noexcept { return !bytes_.empty() && hll_state_stage(bytes_.data()) == HLL_REGISTERS; }
 
-    /// Makes a call that may change the sketch: call(bytes, room, &size). It is made again where it needs more room.
+    /// Makes a call that may change the sketch: call(bytes, room, &size). If it needs more room, grows and makes the
+    /// call again.
     template <class Call> hll_status changed_by(Call call)
     {
         start();
@@ -191,13 +193,13 @@ class state {
         }
     }
 
-    /// Makes the lg_k that it has now the one that it has when it is cleared.
+    /// Keeps the present lg_k for the time when the sketch is cleared.
     void keep_lg_k() noexcept { lg_k_ = static_cast<uint8_t>(lg_k()); }
 
-    /// Grows to all the room that the sketch can ever need: no call on it asks for more.
+    /// Grows to the most room that the sketch can need, so no later call needs more.
     void grow_to_most() { grow(HLL_STATE_MOST(lg_k())); }
 
-    /// A copy for a call that reads the sketch, and may change the bytes.
+    /// Returns a copy, for a call that reads the sketch but may change its bytes.
     state scratch() const
     {
         state copy(*this);
@@ -212,7 +214,7 @@ class state {
         });
     }
 
-    /// Merges another state, whose bytes are reordered.
+    /// Merges another state. The call may reorder the other state's bytes, but keeps its sketch.
     hll_status join_reordered(unsigned lg_max_k, state &other)
     {
         other.start();
@@ -272,7 +274,7 @@ class state {
     }
 };
 
-/// The number whose eight bytes are hashed for an integer: its own, widened to 64 bits.
+/// Returns the number whose eight bytes are hashed for an integer: the integer, widened to 64 bits.
 template <class Integer>
 typename std::enable_if<std::is_integral<Integer>::value, uint64_t>::type hashed_as(Integer value)
 {
@@ -280,7 +282,8 @@ typename std::enable_if<std::is_integral<Integer>::value, uint64_t>::type hashed
     return static_cast<uint64_t>(value);
 }
 
-/// That for a real number: of its binary64, with -0.0 as 0.0 and one NaN.
+/// Returns the number whose eight bytes are hashed for a real number: the bits of its binary64, with -0.0 as 0.0 and
+/// one pattern for every NaN.
 template <class Real> typename std::enable_if<std::is_floating_point<Real>::value, uint64_t>::type hashed_as(Real value)
 {
     static_assert(sizeof value <= 8, "a long double has to be converted to double first");
@@ -309,13 +312,13 @@ inline void put_little_endian(uint64_t number, uint8_t *bytes)
         bytes[i] = static_cast<uint8_t>(number >> (8 * i));
 }
 
-/// Whether values are in memory as they are hashed.
+/// Returns whether the bytes of a value in memory are the bytes that are hashed.
 template <class Value> constexpr bool is_hashed_in_place()
 {
     return is_little_endian && std::is_integral<Value>::value && sizeof(Value) == 8;
 }
 
-/// Puts the coupons of at most a batch of numbers.
+/// Writes the coupons of n numbers, at most `batch`.
 template <class Number>
 typename std::enable_if<std::is_arithmetic<Number>::value>::type hash_batch(const Number *values, size_t n,
                                                                             uint32_t *coupons)
@@ -328,7 +331,7 @@ typename std::enable_if<std::is_arithmetic<Number>::value>::type hash_batch(cons
     check(hll_coupons_fixed(bytes, 8 * n, 8, coupons, n));
 }
 
-/// Puts the coupons of at most a batch of strings, or of other containers of bytes.
+/// Writes the coupons of n strings or other containers of bytes, at most `batch`.
 template <class Text>
 typename std::enable_if<!std::is_arithmetic<Text>::value>::type hash_batch(const Text *values, size_t n,
                                                                            uint32_t *coupons)
@@ -344,11 +347,11 @@ template <class Value> void hash_all(const Value *values, size_t n, uint32_t *co
         hash_batch(values + done, std::min(batch, n - done), coupons + done);
 }
 
-/// What sketches and unions have in common.
+/// The members that sketches and unions have in common.
 class counter {
   public:
-    /// Adds an integer: its eight bytes after it was widened to 64 bits. `true` is 1. Or a float or double: the eight
-    /// bytes of the double. (docs/FORMAT.md, "What values are hashed as")
+    /// Adds a number. An integer counts by its eight bytes, widened to 64 bits, and `true` counts as 1. A float or a
+    /// double counts by the eight bytes of the double (docs/FORMAT.md, "What values are hashed as").
     template <class Number> typename std::enable_if<std::is_arithmetic<Number>::value>::type update(Number value)
     {
         uint8_t bytes[8];
@@ -368,7 +371,7 @@ class counter {
     void update(std::string_view value) { update(value.data(), value.size()); }
 #endif
 
-    /// Adds `size` bytes as one value. A null pointer is allowed where the size is 0.
+    /// Adds `size` bytes as one value. A null pointer is allowed if the size is 0.
     void update(const void *value, size_t size)
     {
         const uint8_t *bytes = checked_bytes(value, size);
@@ -377,7 +380,7 @@ class counter {
         }));
     }
 
-    /// Adds n values, all or none: numbers, strings, or containers of bytes. This takes about half as long as adding
+    /// Adds n values, all or none: numbers, strings, or containers of bytes. Takes about half the time of adding them
     /// one by one.
     template <class Value> void update_many(const Value *values, size_t n)
     {
@@ -410,20 +413,21 @@ class counter {
         add(coupons, n);
     }
 
-    /// The number of distinct values, about.
+    /// Returns the estimated number of distinct values.
     double estimate() const { return estimation().estimate; }
 
-    /// Bounds at 1, 2 or 3 standard deviations: the number is between them in about 68, 95 and 99.7 of 100 cases.
+    /// Return the bounds at 1, 2 or 3 standard deviations. The true number is between them in about 68, 95 and 99.7 of
+    /// 100 cases.
     double lower_bound(unsigned deviations) const { return estimation().lower[index_of(deviations)]; }
     double upper_bound(unsigned deviations) const { return estimation().upper[index_of(deviations)]; }
 
-    /// The estimate with all its bounds, for less than two of the calls above.
+    /// Returns the estimate with all its bounds, in less time than two of the calls above.
     hll_estimation estimation() const { return state_.estimation(); }
 
     unsigned lg_k() const noexcept { return state_.lg_k(); }
     bool is_empty() const noexcept { return state_.is_empty(); }
 
-    /// Forgets all values, and frees the memory.
+    /// Removes all values, and frees the memory.
     void reset() noexcept { state_.clear(); }
 
   protected:
@@ -438,7 +442,7 @@ class counter {
         }));
     }
 
-    /// Adds values by one call, over the coupons of all.
+    /// Adds the coupons of all values by one call.
     template <class Value> void update_at_once(const Value *values, size_t n)
     {
         std::vector<uint32_t> coupons(n);
@@ -457,20 +461,20 @@ class counter {
 
 } // namespace detail
 
-/// Counts distinct values. In datasketches-cpp this is hll_sketch, with the names get_estimate and
-/// get_composite_estimate for estimate, get_lower_bound, get_upper_bound, get_lg_config_k (lg_config_k) for lg_k,
-/// get_target_type for width, and serialize_compact and serialize_updatable for serialize.
+/// Counts distinct values. In datasketches-cpp this class is hll_sketch. Its get_estimate and get_composite_estimate
+/// are estimate here, get_lower_bound and get_upper_bound are lower_bound and upper_bound, get_lg_config_k is lg_k,
+/// get_target_type is width, and serialize_compact and serialize_updatable are serialize.
 class sketch : public detail::counter {
   public:
-    /// An empty sketch of 2^lg_k registers, lg_k 4 to 21. The width is the bits of a register in an image: 4, 6 or 8.
-    /// It changes the size of images, and nothing else.
+    /// Makes an empty sketch of 2^lg_k registers; lg_k is 4 to 21. The width is the number of bits of a register in an
+    /// image: 4, 6 or 8. It changes the size of images, and nothing else.
     explicit sketch(unsigned lg_k = detail::default_lg_k, unsigned width = 8)
         : counter(detail::state(lg_k)), width_(static_cast<uint8_t>(detail::checked_width(width)))
     {
     }
 
-    /// Reads an image, which is checked whole. Bytes after the image are not read. Of untrusted bytes ask is_small
-    /// first.
+    /// Returns the sketch of an image, which is checked whole. Bytes after the image are not read. If the bytes are
+    /// untrusted, call is_small first.
     static sketch deserialize(const void *image, size_t size)
     {
         const uint8_t *bytes = detail::checked_bytes(image, size);
@@ -484,7 +488,7 @@ class sketch : public detail::counter {
     }
     static sketch deserialize(const std::vector<uint8_t> &image) { return deserialize(image.data(), image.size()); }
 
-    /// The image, at the width of the sketch or at another one.
+    /// Returns the image, at the width of the sketch or at the width given.
     std::vector<uint8_t> serialize() const { return state_.image(width_); }
     std::vector<uint8_t> serialize(unsigned width) const { return state_.image(detail::checked_width(width)); }
 
@@ -518,7 +522,7 @@ class sketch : public detail::counter {
     uint8_t width_;
 };
 
-/// Whether both have the same image.
+/// Returns whether both sketches have the same image.
 inline bool operator==(const sketch &a, const sketch &b)
 {
     return a.lg_k() == b.lg_k() && a.width() == b.width() && a.serialize() == b.serialize();
@@ -536,20 +540,20 @@ inline std::ostream &operator<<(std::ostream &out, const sketch &given)
     return out << given.to_string();
 }
 
-/// Merges sketches, images and values. In datasketches-cpp this is hll_union, and get_result is result here.
+/// Merges sketches, images and values. In datasketches-cpp this class is hll_union, and result is get_result.
 class union_ : public detail::counter {
   public:
-    /// Merges sketches of every lg_k. The union has the smallest lg_k of lg_max_k, 4 to 21, and of the sketches with
-    /// registers.
+    /// Makes a union that merges sketches of every lg_k. Its lg_k is lg_max_k, 4 to 21, or the smallest lg_k of the
+    /// merged sketches with registers, if that is smaller.
     explicit union_(unsigned lg_max_k) : counter(detail::state(lg_max_k)), lg_max_k_(static_cast<uint8_t>(lg_max_k)) {}
 
-    /// Without a bound: merges sketches of one lg_k, that of the first which is not empty, and throws lg_k_error at
-    /// another. Values that are added before have an lg_k of 12.
+    /// Makes a union without a bound. It takes the lg_k of the first sketch that is not empty, and throws lg_k_error
+    /// for a sketch of another lg_k. If a value is added first, its lg_k is 12.
     union_() : counter(detail::state(detail::default_lg_k)), lg_max_k_(0) {}
 
     using counter::update;
 
-    /// Merges a sketch. From a sketch that is given up (std::move) it merges without a copy.
+    /// Merges a sketch. A sketch that is passed by std::move is merged without a copy, and keeps its values.
     void update(const sketch &other)
     {
         detail::state copy = other.state_.scratch();
@@ -557,8 +561,8 @@ class union_ : public detail::counter {
     }
     void update(sketch &&other) { joined(state_.join_reordered(lg_max_k_, other.state_), other.lg_k()); }
 
-    /// Merges an image where it is, without making a sketch of it. Bytes after the image are not read. Of untrusted
-    /// bytes ask is_small first.
+    /// Merges an image without making a sketch of it. Bytes after the image are not read. If the bytes are untrusted,
+    /// call is_small first.
     void update_image(const void *image, size_t size)
     {
         const uint8_t *bytes = detail::checked_bytes(image, size);
@@ -566,8 +570,8 @@ class union_ : public detail::counter {
     }
     void update_image(const std::vector<uint8_t> &image) { update_image(image.data(), image.size()); }
 
-    /// Merges n images, all or none, in less time than one by one. An image_error has the index of the first rejected
-    /// image.
+    /// Merges n images, all or none, in less time than one by one. If an image is rejected, the image_error has the
+    /// index of the first such image.
     void update_images(const hll_bytes *images, size_t n)
     {
         detail::checked_bytes(images, n);
@@ -592,10 +596,10 @@ class union_ : public detail::counter {
         update_images(parts.data(), parts.size());
     }
 
-    /// The union as a sketch.
+    /// Returns the union as a sketch.
     sketch result(unsigned width = 8) const { return sketch(state_, width); }
 
-    /// The bound; 0 where there is none.
+    /// Returns the bound, or 0 if there is none.
     unsigned lg_max_k() const noexcept { return lg_max_k_; }
 
     void swap(union_ &other) noexcept
@@ -605,7 +609,7 @@ class union_ : public detail::counter {
     }
 
   private:
-    /// Merges images one by one, of one lg_k.
+    /// Merges images of one lg_k, one by one.
     void update_in_turn(const hll_bytes *images, size_t n)
     {
         union_ copy(*this);
