@@ -9,32 +9,33 @@
  *     hll_image_add(empty, empty_size, (const uint8_t *)"hello", 5, &end, 1, image, sizeof image, &size);
  *     hll_estimate(image, size, &found);
  *
- * A sketch has one of three forms, all in memory of the caller. The library keeps nothing, and there are no handles.
+ * A sketch has one of three forms, all in memory of the caller. The library keeps no memory between calls, and there are no
+ * handles: the caller frees only what the caller allocated.
  *     An image is the bytes of a sketch, for files, columns and other DataSketches libraries. Calls over images read an image
  *     and write another one.
  *     A state is a sketch that grows in place: small while there are few values ("states" below).
  *     Registers are an array of 2^lg_k bytes, a sketch of constant size ("caller-owned registers" below).
  *
- * A sketch of few values is a list or a set of coupons. A coupon is what is kept of a value: a slot below 2^26, and a number
- * from 1 to 63. A sketch of many values has 2^lg_k registers of 4, 6 or 8 bits each (its width). The width changes the
- * size of an image, and nothing else.
+ * A sketch of few values is a list or a set of coupons. A coupon is what the sketch keeps of a value: a slot below 2^26, and
+ * a number from 1 to 63. A sketch of many values has 2^lg_k registers. The width is the number of bits of a register in an
+ * image: 4, 6 or 8. It changes the size of an image, and nothing else.
  *
  * Return values
  *     HLL_OK (0): the call did what was asked.
  *     On every other status the output is unchanged: the buffer, *info, *histogram, *same, *estimation, coupons, registers
  *     and the sketch of a state. *size changes only with HLL_BUFFER, and *lg_k only with HLL_COARSER.
  *     1 to 11 (HLL_TRUNCATED to HLL_REGISTER): the bytes are not an image. The status is the first check that they fail.
- *     HLL_ARGUMENT: an argument is out of its range. This is checked before images are read, with two exceptions that need
- *     the image: a fold above its lg_k, and an image without a HIP estimate.
+ *     HLL_ARGUMENT: an argument is out of its range. This is checked before images are read, except where the check needs
+ *     the image: if a fold is to an lg_k above the image's, or the image has no HIP estimate.
  *     HLL_MEMORY: malloc returned NULL. The same call can be made again.
  *     HLL_BUFFER: the buffer is too small. *size is the number of bytes that are needed.
  *     HLL_COARSER: the sketch to be merged has fewer registers. *lg_k is its lg_k.
  *     HLL_OTHER_LG_K: the sketches have different lg_k, and no lg_max_k was given.
  *
  * Arguments
- *     lg_k, lg_max_k   the logarithm of the number of registers, 4 to 21. So is `to` of a fold.
- *     width            the bits of a register: 4, 6 or 8. hll_image_convert accepts 0 too. Any other number is HLL_ARGUMENT.
- *                      These arguments are unsigned, so 268 is not cut to 12.
+ *     lg_k, lg_max_k   the base-2 logarithm of the number of registers, 4 to 21. So is `to` of a fold.
+ *     width            the bits of a register: 4, 6 or 8. hll_image_convert accepts 0 too. For any other number a call
+ *                      returns HLL_ARGUMENT. All these arguments are unsigned, so 268 is rejected and not cut to 12.
  *     image, len       bytes that begin with an image. Bytes after the image are not read. Every image is checked whole, so
  *                      the bytes may come from anywhere. An untrusted image can be slow: a set of a megabyte takes about
  *                      a second to read, and a call can't be stopped. Call hll_is_small first (docs/OPERATING.md).
@@ -46,23 +47,23 @@
  *                      after the last end are not read.
  *     offsets, offsets_len
  *                      delimit n byte strings by n + 1 offsets: string i goes from offsets[i] to offsets[i + 1]. The first
- *                      offset need not be 0. Offsets ascend, and two may be equal. If there is none, or one descends, is
- *                      negative or is after the last byte, the call returns HLL_ARGUMENT. For a column of Apache Arrow
- *                      (binary or utf8) pass its offsets from array->offset on, and array->length + 1.
- *     registers, count an array of `count` registers, one byte each: 2^lg_k of them, 16 to 2^21. Any other count is
- *                      HLL_ARGUMENT.
- *     failed           receives the number of the first image that is rejected, from 0, when the status is 1 to 11. Else it
- *                      is unchanged. It may be NULL, and so may the lg_k that HLL_COARSER sets.
+ *                      offset need not be 0. Offsets ascend, and two may be equal. If there is no offset,
+ *                      or one descends, is negative or is after the last byte, the call returns HLL_ARGUMENT. For a column
+ *                      of Apache Arrow (binary or utf8) pass its offsets from array->offset on, and array->length + 1.
+ *     registers, count an array of `count` registers, one byte each: 2^lg_k of them, 16 to 2^21. For any other count a call
+ *                      returns HLL_ARGUMENT.
+ *     failed           receives the number of the first image that is rejected, counted from 0, if the status is 1 to 11.
+ *                      Otherwise it is unchanged. It may be NULL, and so may the lg_k that HLL_COARSER sets.
  *
  * Images that are written
  *     Coupons are written in ascending order, so the same sketch has the same bytes. (A set is an exception: it may be in
  *     a table of another size.)
- *     Registers are written with the estimator fields, the three fields from which other DataSketches libraries estimate,
- *     and with the out-of-order flag, if a call changed a register or if these fields were 0 with the flag. The fields
- *     follow from the registers, so the same registers have the same bytes. Fields that another program wrote stay while
- *     no register changes: in a conversion to another width, in a fold to the same lg_k, in a union with empty images only,
- *     and if no added value is new. hll_image_clear_estimator_fields sets the fields to 0, as the program hll_merge does;
- *     other libraries divide by kxq0 + kxq1 and then estimate infinity.
+ *     Registers have three estimator fields, from which other DataSketches libraries estimate, and the out-of-order flag. If
+ *     a call changed a register, or if the fields were 0 and the flag was set, the call sets the flag and writes the fields
+ *     that follow from the registers. So the same registers have the same bytes. Fields that another program wrote stay
+ *     while no register changes: in a conversion to another width, in a fold to the same lg_k, in a union with empty images
+ *     only, and if no added value is new. hll_image_clear_estimator_fields sets the fields to 0, as the program hll_merge
+ *     does. Other libraries divide by two of the fields (kxq0 + kxq1), so they then estimate infinity.
  *     An image is canonical if its coupons are in the smallest form that holds them (a list for up to seven, else the
  *     smallest set that is at most three quarters full), or if its registers have the out-of-order flag and estimator fields
  *     that follow from them, or fields of 0. New images are canonical, and calls make canonical images from canonical ones.
@@ -74,33 +75,34 @@
  *     - out, size, failed, info, histogram, same, coupons, estimation, a state, and registers that a call changes, with its
  *       lg_k, overlap nothing else that is passed. Inputs may overlap each other: an image can be merged with itself.
  *     - Inputs don't change during a call. If another thread writes an end meanwhile, the call may read outside the bytes.
- *     - malloc, realloc and free are of one allocator, and align to 16 bytes.
- *     - No call is made from a signal handler, or in a child that a process with threads forked, since calls use malloc.
+ *     - malloc, realloc and free belong to one allocator, and align to 16 bytes.
+ *     - No call is made from a signal handler, or in the child of a fork of a process with threads, because calls use malloc.
  *     - An x86 processor has the instructions of x86-64-v2. On an older one, glibc's loader rejects the shared library; a
  *       program that is linked statically ends with SIGILL.
  *
  * Memory
- *     A call allocates with malloc and frees all of it before it returns. Reading an image allocates about as many bytes as
- *     its registers or its table have. The comment of each call says what else it allocates.
+ *     A call allocates with malloc, and frees all that it allocated before it returns. "The memory of reading" an image, in
+ *     the comments below, is about as many bytes as its registers or its table have. The comment of each call says what else
+ *     it allocates.
  *
  * Threads
- *     Calls share no data. Any number of threads may call at once, also with the same inputs. A call on a state may change the
- *     bytes of the state, even hll_state_image and hll_state_estimate do: use a state in one thread at a time.
+ *     Calls share no data. Any number of threads may call at once, also with the same inputs. Every call on a state may change
+ *     the bytes of the state, also hll_state_image and hll_state_estimate: use a state in one thread at a time.
  *
  * What is proved
  *     - Of the calls from hll_image_info to hll_coupons_ends32: which status they return, what they write and what they leave
  *       unchanged, for all inputs of a caller who ensures the above.
- *     - If an image is merged into registers that are not all 0, and these are written as an image, the result is their union,
- *       with the estimator fields set.
+ *     - If an image is merged into registers that are not all 0, and these are written as an image, the result is the union of
+ *       the registers and the image, with the estimator fields set.
  *     - What a state means after a merge (hll_state_join), for states whose registers, if they have registers, are not all
  *       0. No call leaves a state whose registers are all 0.
  *     - The estimate from registers (of images, registers, histograms and states): it is the double nearest to a number that
- *       equals the estimator's value within one part in 2^40 and 2^-32, and that never falls when a register is raised.
+ *       differs from the estimator's value by at most one part in 2^40 plus 2^-32, and never falls if a register rises.
  *     That the order, repetition and grouping of canonical images under one lg_max_k make no difference follows from laws that
  *     are proved of sketches; no clause of a call says it.
  *     Not proved, but tested: bounds, estimates from coupons, hll_hip_estimate, hll_version, the division of a state's room
- *     by four, and what this header defines itself. Nothing is proved of time, of threads, of NULL, of other libraries, and
- *     of memory, except for which images an allocation may fail.
+ *     by four, and what this header defines itself. Nothing is proved of time, threads, NULL and other libraries. Of memory it
+ *     is proved only for which images an allocation may fail.
  */
 #ifndef HLL_H
 #define HLL_H
@@ -130,7 +132,7 @@ enum {
     HLL_STAGE = 6,          /* the stage bits are 3 */
     HLL_PREAMBLE = 7,       /* the preamble words don't fit the stage */
     HLL_LG_ARR = 8,         /* the size of a table is outside its range */
-    HLL_COUNT = 9,          /* a count is above its bound, or not that of the filled buckets */
+    HLL_COUNT = 9,          /* a count is above its bound, or not the number of filled buckets */
     HLL_COUPON = 10,        /* a coupon of value 0 where one is needed, or a coupon twice */
     HLL_REGISTER = 11,      /* a register above 63, or nibbles and exceptions that don't agree */
     /* The call can't be done. */
@@ -149,7 +151,7 @@ enum { HLL_LIST = 0, HLL_SET = 1, HLL_REGISTERS = 2 };
 #define HLL_IMAGE_MAX(lg_k) ((size_t)40 + ((size_t)5 << (lg_k)))
 
 /* The size of the largest image of this lg_k and width. With 8 and 6 bits every image of registers has this size. With 4 bits
- * only an image has it in which all registers but one are exceptions. */
+ * only an image in which all registers but one are exceptions has this size. */
 #define HLL_IMAGE_ROOM(lg_k, width)                                                                                    \
     ((width) == 8   ? (size_t)40 + ((size_t)1 << (lg_k))                                                               \
      : (width) == 6 ? (size_t)41 + ((size_t)3 << (lg_k)) / 4                                                           \
@@ -195,15 +197,15 @@ typedef struct hll_bytes {
     size_t len;
 } hll_bytes;
 
-/* Returns the version of the library. HLL_VERSION_NUMBER is that of this header. */
+/* Returns the version of the library. HLL_VERSION_NUMBER is the version of this header. */
 uint32_t hll_version(void);
 
 /* ---- what an image says ---- */
 
-/* Reports what an image says about its sketch. info_size is sizeof *info. If it is not that of this version, the caller was
- * compiled for another one, and the call returns HLL_ARGUMENT.
+/* Reports what an image says about its sketch. info_size is sizeof *info. If it is not the size in this version of the
+ * library, the caller was compiled for another version, and the call returns HLL_ARGUMENT.
  * Returns HLL_OK, 1 to 11, HLL_ARGUMENT or HLL_MEMORY. Allocates a table for coupons, except for a compact image of 1 to 128
- * distinct coupons, or of more that ascend; and a map for the exceptions of 4-bit registers. */
+ * distinct coupons, or of more coupons that ascend; and a map for the exceptions of 4-bit registers. */
 hll_status hll_image_info(const uint8_t *image, size_t len, hll_info *info, size_t info_size);
 
 /* Checks whether the bytes begin with an image.
@@ -229,7 +231,7 @@ hll_status hll_image_new(unsigned lg_k, unsigned width, uint8_t *out, size_t roo
 
 /* Writes the image with n more values: byte strings, delimited by `ends`. Pass many at once, since each call reads the whole
  * image and writes it again. A value that a canonical image already has changes nothing. An image of another program may be
- * fuller than a canonical one, and grows then: a list of eight becomes a set, and a set that is more than three quarters
+ * fuller than a canonical one, and then grows: a list of eight becomes a set, and a set that is more than three quarters
  * full gets a larger table or becomes registers.
  * The bytes are hashed as they are, as in Python, SQL, Java and C++. The original crate for Rust, and update of the Rattle
  * crates, hash a str with a byte ff after it: "ann" from there and "ann" from here are two values.
@@ -245,20 +247,21 @@ hll_status hll_image_add_coupon(const uint8_t *image, size_t len, uint32_t slot,
 /* ---- unions ---- */
 
 /* Writes the union of two images at this width: the sketch of all values that either of them has. Its lg_k is lg_max_k, or
- * the smallest lg_k of the images in registers that are not all 0, if that is smaller. A width of 0 is HLL_ARGUMENT, here and
- * in the unions below.
+ * the smallest lg_k of the images in registers that are not all 0, if that is smaller. For a width of 0 the call returns
+ * HLL_ARGUMENT, and so do the unions below.
  * Returns HLL_OK, 1 to 11 (*failed is 0 for the left image, 1 for the right), HLL_ARGUMENT, HLL_MEMORY or HLL_BUFFER.
  * Allocates the memory of reading one image at a time, 2^lg_k bytes, and the image. */
 hll_status hll_image_merge(unsigned lg_max_k, unsigned width, const uint8_t *left, size_t left_len,
                            const uint8_t *right, size_t right_len, uint8_t *out, size_t room, size_t *size,
                            size_t *failed);
 
-/* Writes the union of n images, delimited by `ends`, at this width. Its lg_k is that of a union of two. The union of no
- * images is the empty sketch of lg_max_k.
- * If all images are canonical, the bytes of the union don't depend on the order of the images, on how often each one is
- * there, or on whether some were merged before under the same lg_max_k. If one image isn't canonical, two such unions fold to
- * the same registers at the smaller lg_k of both, but stage, table and estimator fields may differ. For example, a set of
- * 31 coupons in 32 buckets at lg_k 8 stays a set if it is merged once, and becomes registers if it is merged twice.
+/* Writes the union of n images, delimited by `ends`, at this width. Its lg_k follows the rule of hll_image_merge. The union
+ * of no images is the empty sketch of lg_max_k.
+ * If all images are canonical, the bytes of the union don't depend on the order of the images, on how often each image
+ * occurs, or on whether some images were merged before under the same lg_max_k. If one image isn't canonical, two such
+ * unions fold to the same registers at the smaller lg_k of both, but stage, table and estimator fields may differ. For
+ * example, a set of 31 coupons in 32 buckets at lg_k 8 stays a set if it is merged once, and becomes registers if it is
+ * merged twice.
  * Returns HLL_OK, 1 to 11 (*failed is the number of the image), HLL_ARGUMENT, HLL_MEMORY or HLL_BUFFER.
  * Allocates the memory of reading one image at a time, 2^lg_k bytes, and the image. */
 hll_status hll_images_union(unsigned lg_max_k, unsigned width, const uint8_t *images, size_t images_len,
@@ -276,19 +279,19 @@ hll_status hll_images_unionv(unsigned lg_max_k, unsigned width, const hll_bytes 
  * memory of reading, 2^lg_k bytes, and the image. */
 hll_status hll_image_fold(const uint8_t *image, size_t len, unsigned lg_k, uint8_t *out, size_t room, size_t *size);
 
-/* Writes the image at another width. A width of 0 stands for the image's own: then the image is written as this library
- * writes it, compact and with ascending coupons.
+/* Writes the image at another width. A width of 0 stands for the image's own width: then the image is written as this
+ * library writes it, compact and with ascending coupons.
  * Returns HLL_OK, 1 to 11, HLL_ARGUMENT, HLL_MEMORY or HLL_BUFFER. Allocates the memory of reading, 2^lg_k bytes, and the
  * image. */
 hll_status hll_image_convert(const uint8_t *image, size_t len, unsigned width, uint8_t *out, size_t room, size_t *size);
 
-/* Writes the image with the three fields and the flag from which other DataSketches libraries estimate, whatever they were.
+/* Writes the image with the estimator fields that follow from its registers, and the out-of-order flag, whatever they were.
  * Lists and sets have no such fields, and are written as this library writes them.
  * Returns HLL_OK, 1 to 11, HLL_MEMORY or HLL_BUFFER. Allocates the memory of reading, and the image. */
 hll_status hll_image_set_estimator_fields(const uint8_t *image, size_t len, uint8_t *out, size_t room,
                                           size_t *size);
 
-/* Writes the image with these fields 0 and the flag set, as the program hll_merge writes it.
+/* Writes the image with the estimator fields 0 and the out-of-order flag set, as the program hll_merge writes it.
  * Returns and allocates what hll_image_set_estimator_fields does. */
 hll_status hll_image_clear_estimator_fields(const uint8_t *image, size_t len, uint8_t *out, size_t room,
                                             size_t *size);
@@ -305,7 +308,7 @@ hll_status hll_images_agree(const uint8_t *left, size_t left_len, const uint8_t 
 /* ---- caller-owned registers ----
  *
  * An array of 2^lg_k bytes, all 0 at first. It can be copied, sent and compared as bytes. There is nothing to make and nothing
- * to free. Register s is the greatest value, 0 to 63, of the coupons whose slot is s modulo 2^lg_k. So the bytes don't depend
+ * to free. Register s is the greatest value, 0 to 63, of the coupons whose slot modulo 2^lg_k is s. So the bytes don't depend
  * on the order, repetition or grouping of what was added and merged.
  *
  *     static uint8_t registers[1 << 12];
@@ -317,34 +320,36 @@ hll_status hll_images_agree(const uint8_t *left, size_t left_len, const uint8_t 
  * return HLL_REGISTER if a byte is above 63.
  */
 
-/* Adds n values, delimited by `ends`, as hll_image_add does.
+/* Adds n values to the registers, delimited by `ends`, as hll_image_add does.
  * Returns HLL_OK or HLL_ARGUMENT. Allocates nothing. */
 hll_status hll_registers_add(uint8_t *registers, size_t count, const uint8_t *values, size_t values_len,
                              const size_t *ends, size_t n);
 
-/* Adds values of one length, without ends: values_len / value_len values of value_len bytes each, concatenated.
+/* Adds values of one length to the registers, without ends: values_len / value_len values of value_len bytes each, concatenated.
  * Returns HLL_OK, or HLL_ARGUMENT: also if value_len is 0, or does not divide values_len. Allocates nothing. */
 hll_status hll_registers_add_fixed(uint8_t *registers, size_t count, const uint8_t *values, size_t values_len,
                                    size_t value_len);
 
-/* Adds the values between offsets, as Apache Arrow has them: "offsets, offsets_len" above.
+/* Adds the values between offsets to the registers, as Apache Arrow has them: "offsets, offsets_len" above.
  * Returns HLL_OK or HLL_ARGUMENT. Allocates nothing. */
 hll_status hll_registers_add_ends32(uint8_t *registers, size_t count, const uint8_t *values, size_t values_len,
                                     const int32_t *offsets, size_t offsets_len);
 
-/* Adds n raw coupons, as hll_coupons writes them. A raw coupon of value 0 is HLL_ARGUMENT.
+/* Adds n raw coupons to the registers, as hll_coupons writes them. If a raw coupon has the value 0, the call returns
+ * HLL_ARGUMENT.
  * Returns HLL_OK or HLL_ARGUMENT. Allocates nothing. */
 hll_status hll_registers_add_coupons(uint8_t *registers, size_t count, const uint32_t *coupons, size_t n);
 
 /* Merges an image of any stage, width and lg_k into the registers: each register becomes the greatest of its value and of
  * the image's registers that fold to it. A list or a set has coupons only, and is merged whatever its lg_k is. So are
- * registers that are all 0, which change nothing. If the image has other registers, and fewer than the caller, the call
- * returns HLL_COARSER and sets *lg_k to the image's: fold to that lg_k, and merge again.
+ * registers that are all 0, which change nothing. If the image has other registers, and fewer than `count`, the call
+ * returns HLL_COARSER and sets *lg_k to the image's lg_k: fold to that lg_k, and merge again.
  * Returns HLL_OK, 1 to 11, HLL_ARGUMENT, HLL_MEMORY or HLL_COARSER. Allocates as hll_image_check does. */
 hll_status hll_registers_merge(uint8_t *registers, size_t count, const uint8_t *image, size_t len, uint8_t *lg_k);
 
-/* Merges other registers into these. If the others are more, they are folded. If they are fewer, and not all 0, the call
- * returns HLL_COARSER and sets *lg_k to theirs. A byte of the others above 63 is HLL_REGISTER, also if they are fewer.
+/* Merges other registers into these. If there are more of the others, they are folded. If there are fewer, and not all are 0,
+ * the call returns HLL_COARSER and sets *lg_k to their lg_k. If a byte of the others is above 63, it returns HLL_REGISTER, also
+ * if there are fewer.
  * Returns HLL_OK, HLL_REGISTER, HLL_ARGUMENT or HLL_COARSER. Allocates nothing. */
 hll_status hll_registers_merge_registers(uint8_t *registers, size_t count, const uint8_t *others, size_t others_count,
                                          uint8_t *lg_k);
@@ -378,16 +383,17 @@ hll_status hll_registers_image(const uint8_t *registers, size_t count, unsigned 
  *     hll_state_image(state, room, 8, out, sizeof out, &size);
  *
  * On HLL_BUFFER the sketch is unchanged, and *size bytes are enough for the same call. *size is one and a half times what
- * is needed, so that a loop grows a few times only, and at most HLL_STATE_MOST. The bytes may be moved, and need no alignment.
- * They are for this version of the library, on processors of either byte order: store images in files and columns, not states.
+ * is needed, and at most HLL_STATE_MOST, so a loop reallocates only a few times. The bytes may be moved, and need no alignment.
+ * They are the same on processors of either byte order, but may change with the version of the library: store images in
+ * files and columns, not states.
  *
- * The image of a state is that of an empty sketch to which all values were added, as hll_image_add does, and all sketches
- * were merged, as hll_images_union does. Without values it is that of an empty list. If the bytes are not a state, a call
- * returns HLL_ARGUMENT. If other code changed the bytes, a call returns something, but reads and writes nothing outside the
- * room; a register above 63 is HLL_REGISTER.
+ * The image of a state is the image that hll_image_add and hll_images_union would make of an empty sketch with the same values
+ * and sketches. Without values it is the image of an empty list. If the bytes are not a state, a call returns HLL_ARGUMENT. If
+ * other code changed the bytes, a call may return any result, but reads and writes nothing outside the room. If a register
+ * is above 63, calls that read it return HLL_REGISTER.
  *
- * A state takes 40 bytes, and four for each coupon. It takes more if values repeat, or if it is close to registers: coupons are
- * sorted in place, and become registers next to them.
+ * A state takes 40 bytes, and four for each coupon. It takes more if values repeat, because a repeated coupon stays until the
+ * coupons are sorted. Close to registers it takes HLL_STATE_MOST, because the registers are made next to the coupons.
  */
 
 /* The size of a new state, in bytes. */
@@ -401,16 +407,16 @@ hll_status hll_registers_image(const uint8_t *registers, size_t count, unsigned 
  * Returns HLL_OK, HLL_ARGUMENT, or HLL_BUFFER if room is below HLL_STATE_NEW. Allocates nothing. */
 hll_status hll_state_new(unsigned lg_k, void *state, size_t room);
 
-/* Adds n values, delimited by `ends`, as hll_image_add does.
+/* Adds n values to a state, delimited by `ends`, as hll_image_add does.
  * Returns HLL_OK, HLL_ARGUMENT or HLL_BUFFER. Allocates nothing. */
 hll_status hll_state_add(void *state, size_t room, size_t *size, const uint8_t *values, size_t values_len,
                          const size_t *ends, size_t n);
 
-/* Adds one value.
+/* Adds one value to a state.
  * Returns HLL_OK, HLL_ARGUMENT or HLL_BUFFER. Allocates nothing. */
 hll_status hll_state_add_value(void *state, size_t room, size_t *size, const uint8_t *value, size_t len);
 
-/* Adds n raw coupons, as hll_coupons writes them. A raw coupon of value 0 is HLL_ARGUMENT.
+/* Adds n raw coupons to a state, as hll_coupons writes them. If a raw coupon has the value 0, the call returns HLL_ARGUMENT.
  * Returns HLL_OK, HLL_ARGUMENT or HLL_BUFFER. Allocates nothing. */
 hll_status hll_state_add_coupons(void *state, size_t room, size_t *size, const uint32_t *coupons, size_t n);
 
@@ -420,8 +426,8 @@ hll_status hll_state_add_coupons(void *state, size_t room, size_t *size, const u
  *     lg_max_k 0     Only sketches of one lg_k are merged. If the state has values, and the image has values of another lg_k,
  *                    the call returns HLL_OTHER_LG_K. A state without values takes the lg_k of the first image with values,
  *                    and until then the greatest lg_k of the empty images: make it with hll_state_new(4, ..).
- *     lg_max_k 4-21  Images of any lg_k are merged. Make the state with hll_state_new(lg_max_k, ..). HLL_ARGUMENT if
- *                    lg_max_k is below the lg_k of the state.
+ *     lg_max_k 4-21  Images of any lg_k are merged. Make the state with hll_state_new(lg_max_k, ..). If lg_max_k is
+ *                    below the lg_k of the state, the call returns HLL_ARGUMENT.
  *
  * On HLL_BUFFER *size bytes are enough for the same call, at most HLL_STATE_MOST of the greater lg_k. A loop over images:
  *
@@ -431,19 +437,19 @@ hll_status hll_state_add_coupons(void *state, size_t room, size_t *size, const u
  * Returns HLL_OK, 1 to 11, HLL_ARGUMENT, HLL_MEMORY, HLL_BUFFER or HLL_OTHER_LG_K. Allocates as hll_image_check does. */
 hll_status hll_state_join(unsigned lg_max_k, void *state, size_t room, size_t *size, const uint8_t *image, size_t len);
 
-/* Merges the sketch of another state into a state, as hll_state_join merges that of an image. The bytes of the other state may
+/* Merges the sketch of another state into a state, as hll_state_join does with an image. The bytes of the other state may
  * change, but not its sketch. The two must not overlap.
  * Returns HLL_OK, HLL_REGISTER, HLL_ARGUMENT, HLL_BUFFER or HLL_OTHER_LG_K. Allocates nothing. */
 hll_status hll_state_join_state(unsigned lg_max_k, void *state, size_t room, size_t *size, void *other,
                                 size_t other_room);
 
-/* Writes the image of the sketch at this width. The bytes of the state may change, because coupons are sorted, but not its
+/* Writes the image of a state at this width. The bytes of the state may change, because coupons are sorted, but not its
  * sketch.
  * Returns HLL_OK, HLL_REGISTER, HLL_ARGUMENT, HLL_MEMORY or HLL_BUFFER (*size is the size of the image). Allocates the image,
  * and a copy of registers. */
 hll_status hll_state_image(void *state, size_t room, unsigned width, uint8_t *out, size_t out_room, size_t *size);
 
-/* Estimates as hll_estimate does. The bytes of the state may change, but not its sketch.
+/* Estimates from a state, as hll_estimate does. The bytes of the state may change, but not its sketch.
  * Returns HLL_OK, HLL_REGISTER or HLL_ARGUMENT. Allocates nothing. */
 hll_status hll_state_estimate(void *state, size_t room, hll_estimation *estimation);
 
@@ -483,9 +489,9 @@ hll_status hll_coupons_ends32(const uint8_t *values, size_t values_len, const in
 hll_status hll_estimate(const uint8_t *image, size_t len, hll_estimation *estimation);
 
 /* Reports the HIP estimate that the writer of an image kept in it while it added values one by one, with its bounds. Its
- * standard error is a fifth smaller than that of hll_estimate. If there is none, the call returns HLL_ARGUMENT: for coupons,
- * for registers that were merged (with the out-of-order flag), and if the field is 0, as this library writes it, or not a
- * number. Not proved.
+ * standard error is a fifth smaller than the error of hll_estimate. If there is no HIP estimate, the call returns HLL_ARGUMENT:
+ * for coupons, for registers that were merged (with the out-of-order flag), and if the field is 0, as this library writes it,
+ * or not a number. Not proved.
  * Returns HLL_OK, 1 to 11, HLL_ARGUMENT or HLL_MEMORY. Allocates the memory of reading. */
 hll_status hll_hip_estimate(const uint8_t *image, size_t len, hll_estimation *estimation);
 
@@ -502,7 +508,7 @@ hll_status hll_histogram_estimate(const hll_histogram *histogram, hll_estimation
  * Returns HLL_OK or HLL_ARGUMENT. Allocates nothing. */
 hll_status hll_coupons_estimate(uint64_t n, hll_estimation *estimation);
 
-/* Returns a status as one word: "ok", "truncated", "family" and so on; "unknown" for any other number. */
+/* Returns a status as one word: "ok", "truncated", "family" and so on, or "unknown" for any other number. */
 static inline const char *hll_reason(hll_status status)
 {
     static const char *const words[] = {"ok",       "truncated", "family",   "version",  "lgk",
@@ -512,7 +518,7 @@ static inline const char *hll_reason(hll_status status)
     return status <= HLL_OTHER_LG_K ? words[status] : "unknown";
 }
 
-/* Returns a status as a sentence; "The status is unknown." for any other number. */
+/* Returns a status as a sentence, or "The status is unknown." for any other number. */
 static inline const char *hll_message(hll_status status)
 {
     static const char *const sentences[] = {
@@ -538,7 +544,7 @@ static inline const char *hll_message(hll_status status)
 }
 
 /* Return what the header of an image says, without checking the rest: its lg_k, 4 to 21; its width, 4, 6 or 8; and its stage.
- * They return 0 (HLL_LIST for the stage) if there are fewer than eight bytes, or the header says something else. */
+ * They return 0 (HLL_LIST for the stage) if there are fewer than eight bytes, or if the header has no such value. */
 static inline uint8_t hll_image_lg_k(const uint8_t *image, size_t len)
 {
     return 8 <= len && 4 <= image[3] && image[3] <= 21 ? image[3] : 0;
@@ -557,7 +563,7 @@ static inline uint8_t hll_image_stage(const uint8_t *image, size_t len)
 }
 
 /* Returns the size that the header of an image gives, without checking the rest: quick, and exact if the bytes are an image.
- * Returns 0 if the header gives none: with tables of buckets, and if it is cut off or is not that of an image. */
+ * Returns 0 if the header gives no size: if the image has a table of buckets, and if the header is cut off or is wrong. */
 static inline size_t hll_image_header_size(const uint8_t *image, size_t len)
 {
     uint8_t lg_k = hll_image_lg_k(image, len), width = hll_image_width(image, len), stage = hll_image_stage(image, len);
@@ -589,8 +595,8 @@ static inline uint8_t hll_state_lg_k(const void *state)
     return hll_state_number(state, 1) & 31;
 }
 
-/* Returns the width of the images that were merged into a state, 4, 6 or 8: of those with values or, if none has values, of
- * all. Returns 8 if none was merged, or if their widths differ. */
+/* Returns the width of the images that were merged into a state, 4, 6 or 8: of the images with values or, if no image has
+ * values, of all images. Returns 8 if no image was merged, or if their widths differ. */
 static inline uint8_t hll_state_width(const void *state)
 {
     uint32_t widths = hll_state_number(state, 2) & 7;
@@ -598,13 +604,13 @@ static inline uint8_t hll_state_width(const void *state)
 }
 
 /* Returns HLL_REGISTERS if a state has registers, and HLL_SET if it has coupons, which may repeat. Its image is a list if at
- * most seven are distinct, and has registers if they are too many for a set. */
+ * most seven coupons are distinct, and has registers if there are too many coupons for a set. */
 static inline uint8_t hll_state_stage(const void *state)
 {
     return hll_state_number(state, 0) == UINT32_C(0x4c484c42) ? HLL_REGISTERS : HLL_SET;
 }
 
-/* Returns the number of bytes of its room that a state takes. A copy of these is a copy of the sketch. */
+/* Returns the number of bytes that a state takes of its room. A copy of these bytes is a copy of the sketch. */
 static inline size_t hll_state_size(const void *state)
 {
     uint8_t lg_k = hll_state_lg_k(state);
