@@ -77,8 +77,8 @@
  *     - Inputs don't change during a call. If another thread writes an end meanwhile, the call may read outside the bytes.
  *     - malloc, realloc and free belong to one allocator, and align to 16 bytes.
  *     - No call is made from a signal handler, or in the child of a fork of a process with threads, because calls use malloc.
- *     - An x86 processor has the instructions of x86-64-v2. On an older one, glibc's loader rejects the shared library; a
- *       program that is linked statically ends with SIGILL.
+ *     - An x86 processor has the instructions of x86-64-v2. On an older processor, glibc's loader rejects the shared
+ *       library, and a program that is linked statically ends with SIGILL.
  *
  * Memory
  *     A call allocates with malloc, and frees all that it allocated before it returns. "The memory of reading" an image, in
@@ -99,7 +99,7 @@
  *     - The estimate from registers (of images, registers, histograms and states): it is the double nearest to a number that
  *       differs from the estimator's value by at most one part in 2^40 plus 2^-32, and never falls if a register rises.
  *     That the order, repetition and grouping of canonical images under one lg_max_k make no difference follows from laws that
- *     are proved of sketches; no clause of a call says it.
+ *     are proved for sketches (docs/PROVED.md, "The headline"). No clause of a call says it.
  *     Not proved, but tested: bounds, estimates from coupons, hll_hip_estimate, hll_version, the division of a state's room
  *     by four, and what this header defines itself. Nothing is proved of time, threads, NULL and other libraries. Of memory it
  *     is proved only for which images an allocation may fail.
@@ -124,16 +124,16 @@ typedef uint8_t hll_status;
 enum {
     HLL_OK = 0,
     /* The bytes are not an image. */
-    HLL_TRUNCATED = 1,      /* the bytes end inside what the header asks for */
+    HLL_TRUNCATED = 1,      /* the bytes end before everything that the header announces */
     HLL_FAMILY = 2,         /* the family byte is not 7 */
     HLL_SERIAL_VERSION = 3, /* the serial version is not 1 */
     HLL_LG_K = 4,           /* lg_k is outside 4 to 21 */
     HLL_WIDTH = 5,          /* the width bits are 3 */
     HLL_STAGE = 6,          /* the stage bits are 3 */
-    HLL_PREAMBLE = 7,       /* the preamble words don't fit the stage */
+    HLL_PREAMBLE = 7,       /* the preamble size doesn't fit the stage */
     HLL_LG_ARR = 8,         /* the size of a table is outside its range */
     HLL_COUNT = 9,          /* a count is above its bound, or not the number of filled buckets */
-    HLL_COUPON = 10,        /* a coupon of value 0 where one is needed, or a coupon twice */
+    HLL_COUPON = 10,        /* a coupon has the value 0 where a coupon is needed, or comes twice */
     HLL_REGISTER = 11,      /* a register above 63, or nibbles and exceptions that don't agree */
     /* The call can't be done. */
     HLL_ARGUMENT = 12,      /* an argument is out of its range */
@@ -325,7 +325,8 @@ hll_status hll_images_agree(const uint8_t *left, size_t left_len, const uint8_t 
 hll_status hll_registers_add(uint8_t *registers, size_t count, const uint8_t *values, size_t values_len,
                              const size_t *ends, size_t n);
 
-/* Adds values of one length to the registers, without ends: values_len / value_len values of value_len bytes each, concatenated.
+/* Adds values of one length to the registers, without ends: values_len / value_len values of value_len bytes each,
+ * concatenated.
  * Returns HLL_OK, or HLL_ARGUMENT: also if value_len is 0, or does not divide values_len. Allocates nothing. */
 hll_status hll_registers_add_fixed(uint8_t *registers, size_t count, const uint8_t *values, size_t values_len,
                                    size_t value_len);
@@ -399,8 +400,8 @@ hll_status hll_registers_image(const uint8_t *registers, size_t count, unsigned 
 /* The size of a new state, in bytes. */
 #define HLL_STATE_NEW ((size_t)40)
 
-/* Enough bytes for every state of this lg_k: 40, one for each register, and half as many (64 if lg_k is below 7) for the coupons
- * that become registers. */
+/* Enough bytes for every state of this lg_k: 40, one for each register, and half of that number (64 if lg_k is below 7) for the
+ * coupons that become registers. */
 #define HLL_STATE_MOST(lg_k) ((size_t)40 + ((size_t)1 << (lg_k)) + ((lg_k) < 7 ? (size_t)64 : (size_t)1 << ((lg_k)-1)))
 
 /* Makes the state of an empty sketch.
