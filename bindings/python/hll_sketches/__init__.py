@@ -11,8 +11,8 @@ merged into the sketch of all their values.
     >>> round(union_of([monday, tuesday]).estimate())
     4
 
-Proved calls of a shared library read, make and merge sketches and their images, which are bytes.
-Estimates, and this package itself, are tested and not proved.
+The calls of the C library that read, make and merge sketches are proved correct, and so are its
+estimates from registers. Bounds, estimates from coupons, and this package itself are tested.
 """
 from ._errors import ArgumentError, FilesError, HllError, ImageError, PrecisionError
 from ._values import Value, coupon, coupons

@@ -340,7 +340,7 @@ def union_of_files(
     storage_options : dict, optional
         What ``fsspec`` passes to the file system of patterns and URLs, for example keys.
     on_error : str
-        What to do about files that are not an image or can't be read: ``"raise"`` raises an error,
+        What to do about files that are not an image or can't be read. ``"raise"`` raises an error.
         ``"skip"`` leaves them out and returns ``LeftOut``.
     files_per_task : int, optional
         How many files a task reads. By default there are two tasks for each thread of the cluster,
@@ -553,7 +553,7 @@ def union_aggregation(
     lg_max_k, width : int, optional
         As for ``hll_sketches.union_of``.
     name : str, optional
-        The name of the aggregation for Dask; by default ``hll_union`` with those of the numbers above
+        The name of the aggregation for Dask; by default ``hll_union``, followed by the numbers above
         that are given. Aggregations on one column need different names.
 
     Returns

@@ -297,27 +297,28 @@ def merge_files(
 ) -> Sketch:
     """Return the union of the sketches in files, as the command ``hll merge`` does.
 
-    Files are read in batches of a quarter of a megabyte, or one image where that is larger.
+    Files are read in batches of a quarter of a megabyte, or of one image if it is larger.
 
     Parameters
     ----------
     paths : iterable of str, bytes or path
-        Files, and folders, of which all files are merged except names that begin with a dot. A
-        warning names what is skipped in a folder: links to folders, pipes, sockets and devices.
+        Files and folders. All files below a folder are merged, except names that begin with a dot.
+        Pipes, sockets, devices and links to folders are skipped, with a warning for each.
     lg_max_k, width : int, optional
         As for ``union_of``.
     jobs : int
         How many processes to use.
     on_refused : callable, optional
-        Called with the path of each rejected file, and why it was rejected. The union is that of the
-        other files.
+        Called with the path of each rejected file, and why it was rejected. The other files are
+        merged.
 
     Raises
     ------
     FilesError
-        If files are rejected and ``on_refused`` is not given. It has the paths of all of them.
+        If files are rejected and ``on_refused`` is not given. ``refused`` has the paths of all of
+        them.
     PrecisionError
-        If a file has another ``lg_k`` than those before it, and ``lg_max_k`` is not given;
+        If a file has another ``lg_k`` than the files before it, and ``lg_max_k`` is not given.
         ``place`` is its path.
     ArgumentError
         If ``lg_max_k`` or ``width`` is out of range.

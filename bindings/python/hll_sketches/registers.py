@@ -15,7 +15,7 @@ from .sketch import Sketch, checked_deviations, checked_lg_k, checked_width, dat
 _R = TypeVar("_R", bound="Registers")
 
 class Registers:
-    """The registers of a sketch, a byte for each: ``2**lg_k`` bytes, all 0 at first.
+    """The registers of a sketch, one byte for each: ``2**lg_k`` bytes, all 0 at first.
 
     They count like a ``Sketch``, in constant memory. Values, coupons, sketches and images are merged
     into them in place. The same values give the same bytes, in any order, any number of times, in any
@@ -57,9 +57,9 @@ class Registers:
         Raises
         ------
         TypeError
-            If they are read-only, or are not contiguous bytes.
+            If the bytes are read-only or not contiguous.
         ArgumentError
-            If their number is not such a power of two.
+            If the number of bytes is not such a power of two.
         """
         view = memoryview(memory)
         if view.readonly:
@@ -105,7 +105,7 @@ class Registers:
         Raises
         ------
         ArgumentError
-            If one is not a coupon. Then none was added.
+            If a number is not a coupon. Then no coupon was added.
         """
         taken = raw_coupons_in(raw_coupons)
         if taken:
@@ -120,8 +120,8 @@ class Registers:
         ImageError
             If bytes are not an image.
         PrecisionError
-            If the other sketch has fewer registers, and they are not all 0. The error has its
-            ``lg_k``. To merge anyway, ``fold`` these registers to that ``lg_k`` first.
+            If the other sketch has fewer registers, and they are not all 0. The error has the
+            ``lg_k`` of that sketch. To merge anyway, first ``fold`` these registers to it.
         """
         if isinstance(other, Registers):
             copied = memoryview(other._bytes())     # both may use the same memory
@@ -142,7 +142,7 @@ class Registers:
     # ---- others of the same values
 
     def fold(self: _R, lg_k: int) -> _R:
-        """Return registers of the same values at a smaller ``lg_k``, or at the same.
+        """Return registers of the same values at a smaller ``lg_k``, or at the same ``lg_k``.
 
         Raises
         ------
@@ -190,7 +190,10 @@ class Registers:
         return _library.histogram_of(self._place)
 
     def estimate(self) -> float:
-        """Return an estimate of how many distinct values were counted. It is not proved."""
+        """Return an estimate of how many distinct values were counted.
+
+        It is proved to be near the exact value of the estimator.
+        """
         return _library.estimation_of(self._place).estimate
 
     def bounds(self, deviations: int = 2) -> Tuple[float, float]:
@@ -232,7 +235,7 @@ class Registers:
     # ---- copies
 
     def copy(self: _R) -> _R:
-        """Return a copy, in memory of its own."""
+        """Return a copy, which has its own memory."""
         return self.over(self._bytes())
 
     def __copy__(self: _R) -> _R:

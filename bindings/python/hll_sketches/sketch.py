@@ -19,7 +19,7 @@ _S = TypeVar("_S", bound="Sketch")
 _STAGES = ("list", "set", "registers")
 
 Buffer = Union[bytes, bytearray, memoryview, Any]
-"""What shares its bytes: also an ``array``, an ``mmap``, or a NumPy array."""
+"""An object that shares its bytes: also an ``array``, an ``mmap``, or a NumPy array."""
 
 PENDING_BYTES, VALUE_BYTES = 1 << 12, 56
 """A sketch buffers values of this many bytes, or twice the size of its image, before it hashes them; and
@@ -106,8 +106,8 @@ def is_small(
     """Return whether an untrusted image is small, and so quick to read.
 
     A malicious image can occupy its reader for more than a second. Its ``lg_k`` and its size bound
-    this time, and are known without reading the image. With the defaults it takes milliseconds, and
-    every image that honest programs write at an ``lg_k`` of 12 passes.
+    this time, and are known without reading the image. With the defaults, reading takes milliseconds,
+    and every image that honest programs write at ``lg_k`` 12 passes.
 
     Parameters
     ----------
@@ -125,9 +125,10 @@ def is_small(
 class Sketch:
     """A HyperLogLog sketch: it counts distinct values.
 
-    A sketch begins as a list of coupons, which are what it stores of each value. It becomes a set of
-    coupons, and then ``2**lg_k`` registers. The estimate of a list or a set is nearly exact. With
-    registers the relative standard error is about ``1.04 / sqrt(2**lg_k)``, which is 1.6 % for 12.
+    A sketch begins as a list of coupons. A coupon is the four bytes that it stores of a value. The
+    list becomes a set of coupons, and then ``2**lg_k`` registers. The estimate of a list or a set is
+    nearly exact. The estimate from registers has a relative standard error of about
+    ``1.04 / sqrt(2**lg_k)``, which is 1.6 % at ``lg_k`` 12.
 
     Only ``update..``, ``add_coupon``, ``merge``, ``|=``, ``reset`` and ``set_estimator_fields``
     change a sketch. Any number of threads may use and change a sketch at once.
@@ -188,8 +189,8 @@ class Sketch:
         """Return the image: compact, with coupons in ascending order.
 
         Equal sketches have equal images, except for sets that were read from tables of different
-        sizes. Registers have the fields that other DataSketches libraries estimate from. Fields that
-        another library wrote are kept until the sketch changes.
+        sizes. An image of registers has the estimator fields, from which other DataSketches libraries
+        estimate. Fields that another library wrote are kept until the sketch changes.
 
         Parameters
         ----------
@@ -208,7 +209,7 @@ class Sketch:
     def read(cls: Type[_S], path: Union[str, "os.PathLike[str]"]) -> _S:
         """Read the file of a sketch.
 
-        Only as much is read as the first bytes say that the image needs.
+        It reads no more bytes than the image has by its first bytes.
 
         Raises
         ------
@@ -228,14 +229,14 @@ class Sketch:
     def write(self, path: Union[str, "os.PathLike[str]"]) -> None:
         """Write the image to a file, and sync the file to disk.
 
-        At each moment the file is the old one or the new one, and never incomplete. It has the bytes
-        of ``to_bytes``.
+        The file has the bytes of ``to_bytes``. At each moment it is either the old file or the
+        complete new file.
 
         Raises
         ------
         OSError
-            If the file can't be written. Then the old file is there, unless the new file is complete
-            and only its name may not be on disk yet.
+            If the file can't be written. Then the old file is unchanged, with one exception: if only
+            the last sync fails, the new file is complete, but its name may not be on disk yet.
         """
         from .files import write_path
 
@@ -245,8 +246,8 @@ class Sketch:
     def max_bytes(lg_k: int = 12, width: int = 8) -> int:
         """Return the largest size of an image, in bytes.
 
-        With 8-bit and 6-bit registers, each image of registers has this size. 4-bit registers reach
-        it only if nearly all are far above the least register. Their usual size is half a byte for
+        Every image of 8-bit or 6-bit registers has this size. An image of 4-bit registers has it only
+        if nearly all registers are far above the smallest register. Usually it has half a byte for
         each register and 40 to 60 bytes more.
         """
         count, width = 1 << checked_lg_k(lg_k), checked_width(width)
@@ -255,22 +256,24 @@ class Sketch:
     # ---- changes
 
     def update(self, value: Value) -> None:
-        """Count a value. One that was counted before makes no difference.
+        """Count a value. A value that was counted before changes nothing.
 
-        Values are buffered and hashed together, when they take four kilobytes or twice the size of
-        the image, or when the sketch is used in another way. So that later call may raise
+        Values are buffered. They are hashed together when they take four kilobytes and twice the size
+        of the image, or when the sketch is used in another way. So a later call may raise
         ``MemoryError``.
 
         Parameters
         ----------
         value : bytes, bytearray, memoryview, str, int or float
-            Hashed as bytes: a ``str`` as its UTF-8, an ``int`` as eight bytes, little-endian (in two's
-            complement if it is negative), a ``float`` as its binary64, little-endian, with -0.0 as
-            0.0 and one NaN for all. So ``1``, ``1.0`` and ``"1"`` are three values, and ``-1`` is
-            the same as ``2**64 - 1``. The DataSketches libraries for Java and C++ hash the same
-            bytes, but they skip an empty string, which is a value like any other here. The Rust
-            library, and ``update`` of the Rattle crates, hash a ``str`` with a byte ff after it, so
-            their ``"ann"`` is another value.
+            Hashed as bytes. A ``str`` is hashed as its UTF-8. An ``int`` is hashed as eight bytes,
+            little-endian, in two's complement if it is negative. A ``float`` is hashed as its
+            binary64, little-endian; -0.0 counts as 0.0, and all NaN count as one value. So ``1``,
+            ``1.0`` and ``"1"`` are three values, and ``-1`` is the same as ``2**64 - 1``.
+
+            The DataSketches libraries for Java and C++ hash the same bytes. But they skip an empty
+            string, which this package counts. The DataSketches library for Rust, and ``update`` of
+            the Rattle crates, hash a ``str`` with a byte ff after it, so their ``"ann"`` is another
+            value.
 
         Raises
         ------
@@ -291,12 +294,12 @@ class Sketch:
         Parameters
         ----------
         values : iterable
-            Values that ``update`` accepts. Numbers of at most eight bytes, and byte strings of one
-            width, are read from memory, without an object for each: a NumPy array of one dimension,
-            a pandas ``Series``, an ``array.array``, a ``memoryview`` of numbers. They count as they
-            do one at a time. The values of an open file are its lines without the LF. A single
-            ``str`` or ``bytes``, a ``dict`` or a table is not accepted. If a value raises an error,
-            some of the values before it have been counted.
+            Values that ``update`` accepts. Arrays of numbers of at most eight bytes, or of byte
+            strings of one width, are read directly from their memory: a NumPy array of one dimension,
+            a pandas ``Series``, an ``array.array``, a ``memoryview`` of numbers. Their values count
+            as if ``update`` were called for each. The values of an open file are its lines without
+            the LF. A single ``str`` or ``bytes``, a ``dict`` or a table is not accepted. If a value
+            raises an error, some of the values before it have been counted.
         skip_missing : bool
             Whether missing values are skipped: ``None``, NaN (which pandas puts into a column
             of integers), ``pandas.NA``, ``NaT`` and masked values. ``update`` counts NaN itself.
@@ -320,8 +323,8 @@ class Sketch:
         data : bytes, or an object that shares its bytes
             The concatenated strings. Bytes after the last end are not read.
         ends : iterable of int, or integers in memory
-            The end of each string. The first string begins at 0. (Offsets of Arrow begin with that
-            0, unless the array is a slice. Leave it out.)
+            The end of each string. The first string begins at 0. Arrow's offsets begin with this 0,
+            unless the array is a slice: leave the 0 out.
 
         Raises
         ------
@@ -358,17 +361,18 @@ class Sketch:
     def merge(self, other: "Sketch", lg_max_k: Optional[int] = None) -> None:
         """Merge another sketch into this one, which becomes the union of both.
 
-        Sketches of one ``lg_k`` are merged at it. Sketches of different ``lg_k`` are merged only if
-        ``lg_max_k`` is given. If one is empty, the union is the other. The width is that of both,
-        or 8 if they differ.
+        Sketches of the same ``lg_k`` are merged at that ``lg_k``. Sketches of different ``lg_k`` are
+        merged only if ``lg_max_k`` is given. If one sketch is empty, the union is the other. The
+        union has the width of both sketches, or width 8 if they differ.
 
         Parameters
         ----------
         other : Sketch
             The other sketch, which is unchanged.
         lg_max_k : int, optional
-            The largest ``lg_k`` of the union, 4 to 21. The ``lg_k`` of the union is the least of this
-            bound and of the ``lg_k`` of each sketch whose registers are not all 0.
+            The bound of the union's ``lg_k``, 4 to 21. The union has this ``lg_k``. But if a sketch
+            with registers that are not all 0 has a smaller ``lg_k``, the union has the smallest such
+            ``lg_k``.
 
         Raises
         ------
@@ -429,12 +433,12 @@ class Sketch:
     # ---- other sketches of the same values
 
     def fold(self: _S, lg_k: int) -> _S:
-        """Return the sketch of the same values at a smaller ``lg_k``, or at the same.
+        """Return the sketch of the same values at a smaller ``lg_k``, or at the same ``lg_k``.
 
         Raises
         ------
         ArgumentError
-            If ``lg_k`` is below 4 or above that of this sketch.
+            If ``lg_k`` is below 4 or above the ``lg_k`` of this sketch.
         """
         image, lg_k = self.to_bytes(), checked_lg_k(lg_k)
         if lg_k > image[3]:
@@ -454,8 +458,8 @@ class Sketch:
     def set_estimator_fields(self) -> None:
         """Recompute the estimator fields from the registers.
 
-        A sketch has these fields anyway, unless it was read from an image in which another
-        DataSketches library kept a HIP estimate, and was not changed since.
+        Only one kind of sketch needs this call: a sketch that was read from an image in which another
+        DataSketches library stored a HIP estimate, and was not changed since.
         """
         with self._lock:
             self._image = _library.set_estimator_fields(self.to_bytes())
@@ -493,20 +497,24 @@ class Sketch:
         return _library.info(self.to_bytes()).zeros
 
     def histogram(self) -> List[int]:
-        """Return how many registers have each value from 0 to 63. Coupons are counted as registers."""
+        """Return how many registers have each value from 0 to 63. A list or a set counts as registers."""
         return _library.histogram(self.to_bytes())
 
     # ---- estimates
 
     def estimate(self) -> float:
-        """Return an estimate of how many distinct values were counted. It is not proved."""
+        """Return an estimate of how many distinct values were counted.
+
+        The estimate from registers is proved to be near the exact value of the estimator. The
+        estimate from coupons is tested.
+        """
         return _library.estimation(self.to_bytes()).estimate
 
     def hip_estimate(self) -> Optional[float]:
         """Return the HIP estimate that another program stored with the registers, or None.
 
-        Its standard error, ``0.83 / sqrt(2**lg_k)``, is a fifth smaller than that of ``estimate``.
-        Merged sketches, and sketches that this package changed, have none.
+        Its standard error is ``0.83 / sqrt(2**lg_k)``, a fifth smaller than the standard error of
+        ``estimate``. Merged sketches, and sketches that this package changed, have no HIP estimate.
         """
         found = _library.hip_estimation(self.to_bytes())
         return None if found is None else found.estimate

@@ -31,8 +31,8 @@ def _images(sources: Iterable[Source]) -> Iterator[bytes]:
 class SketchUnion:
     """The union of sketches: the sketch of all values that any of them has.
 
-    Sketches of one ``lg_k`` are merged at it. Sketches of different ``lg_k`` are merged only if
-    ``lg_max_k`` is given. Empty sketches count for nothing.
+    Sketches of the same ``lg_k`` are merged at that ``lg_k``. Sketches of different ``lg_k`` are
+    merged only if ``lg_max_k`` is given. Empty sketches don't affect the ``lg_k``.
 
     The registers don't depend on the order of the sketches, on repetition, or on whether some of them
     were merged before with the same ``lg_max_k``. Any number of threads may use a union at once.
@@ -40,8 +40,8 @@ class SketchUnion:
     Parameters
     ----------
     lg_max_k : int, optional
-        The largest ``lg_k`` of the union, 4 to 21. The ``lg_k`` of the union is the least of this
-        bound and of the ``lg_k`` of each sketch whose registers are not all 0.
+        The bound of the union's ``lg_k``, 4 to 21. The union has this ``lg_k``. But if a sketch with
+        registers that are not all 0 has a smaller ``lg_k``, the union has the smallest such ``lg_k``.
     width : int, optional
         The bits of a register of the union's sketch, 4, 6 or 8. By default it is the width of the
         sketches, or 8 if they differ.
@@ -61,7 +61,7 @@ class SketchUnion:
 
     @property
     def lg_max_k(self) -> Optional[int]:
-        """The largest ``lg_k`` of the union, or None if none was given."""
+        """The bound of the union's ``lg_k``, or None if no bound was given."""
         return self._state.lg_max_k or None
 
     @property
@@ -77,7 +77,7 @@ class SketchUnion:
         ImageError
             If the bytes are not an image. Then nothing has changed.
         PrecisionError
-            If the sketch has another ``lg_k`` than the union, neither is empty, and no ``lg_max_k``
+            If the sketch and the union have different ``lg_k``, neither is empty, and no ``lg_max_k``
             was given. Then nothing has changed.
         """
         image = image_in(sketch)
@@ -90,8 +90,8 @@ class SketchUnion:
         Raises
         ------
         ImageError, PrecisionError
-            As ``update`` does. Then nothing has changed. ``number`` is the index of the sketch. It is
-            None if all these sketches have one ``lg_k``, and the union has another.
+            As by ``update``. Then nothing has changed. ``number`` is the index of the sketch. It is
+            None if all these sketches have the same ``lg_k``, and the union has another.
         """
         taken = State(self._state.lg_max_k)
         taken.join_stream(_images(sketches))
@@ -101,8 +101,8 @@ class SketchUnion:
     def update_values(self, values: Iterable[Value], *, skip_missing: bool = False) -> None:
         """Count many values, as ``Sketch.update_many`` does.
 
-        They are counted at the ``lg_k`` of the union: that of its sketches, or ``lg_max_k``, or 12.
-        If a value raises an error, nothing has changed.
+        They are counted at the ``lg_k`` of the union (the property ``lg_k``). If a value raises an
+        error, nothing has changed.
         """
         made = Sketch(self.lg_k)
         made.update_many(values, skip_missing=skip_missing)
@@ -119,7 +119,10 @@ class SketchUnion:
 
     @property
     def lg_k(self) -> int:
-        """The ``lg_k`` of the union so far; 12 if no sketch was merged, and none was given."""
+        """The ``lg_k`` of the union so far.
+
+        If no sketch was merged, it is ``lg_max_k``, or 12 if no ``lg_max_k`` was given.
+        """
         return self._state.lg_k
 
     @property
@@ -206,18 +209,18 @@ def union_of(
 ) -> Sketch:
     """Return the union of sketches or images.
 
-    This is the fastest way to merge many sketches. Sketches of one ``lg_k`` are merged at it, and
-    sketches of different ``lg_k`` only if ``lg_max_k`` is given. Empty sketches count for nothing. If
-    all are empty, the union has their greatest ``lg_k``. Without sketches the union is empty, at
-    ``lg_max_k`` or at 12.
+    This is the fastest way to merge many sketches. Sketches of the same ``lg_k`` are merged at that
+    ``lg_k``. Sketches of different ``lg_k`` are merged only if ``lg_max_k`` is given. Empty sketches
+    don't affect the ``lg_k``. If all sketches are empty, the union has their greatest ``lg_k``, or
+    ``lg_max_k``. Without sketches the union is empty, at ``lg_max_k`` or at 12.
 
     Parameters
     ----------
     sketches : iterable
         ``Sketch`` objects, or images as bytes.
     lg_max_k : int, optional
-        The largest ``lg_k`` of the union, 4 to 21. The ``lg_k`` of the union is the least of this
-        bound and of the ``lg_k`` of each sketch whose registers are not all 0.
+        The bound of the union's ``lg_k``, 4 to 21. The union has this ``lg_k``. But if a sketch with
+        registers that are not all 0 has a smaller ``lg_k``, the union has the smallest such ``lg_k``.
     width : int, optional
         The bits of a register of the union, 4, 6 or 8. By default it is the width of the sketches, or
         8 if they differ.
@@ -225,10 +228,10 @@ def union_of(
     Raises
     ------
     ImageError
-        If bytes are not an image. ``number`` is the index.
+        If bytes are not an image. ``number`` is the index of the image.
     PrecisionError
-        If a sketch has another ``lg_k`` than those before it, and no ``lg_max_k`` was given.
-        ``number`` is the index.
+        If a sketch has another ``lg_k`` than the sketches before it, and no ``lg_max_k`` was given.
+        ``number`` is the index of the sketch.
     ArgumentError
         If ``lg_max_k`` or ``width`` is out of range.
     """
