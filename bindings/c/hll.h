@@ -229,12 +229,12 @@ hll_status hll_image_histogram(const uint8_t *image, size_t len, hll_histogram *
  * Returns HLL_OK, HLL_ARGUMENT, HLL_MEMORY or HLL_BUFFER. Allocates the image. */
 hll_status hll_image_new(unsigned lg_k, unsigned width, uint8_t *out, size_t room, size_t *size);
 
-/* Writes the image with n more values: byte strings, delimited by `ends`. Pass many at once, since each call reads the whole
- * image and writes it again. A value that a canonical image already has changes nothing. An image of another program may be
+/* Writes the image with n more values: byte strings, delimited by `ends`. Pass many at once, because each call reads the
+ * whole image and writes it again. A value that a canonical image already has changes nothing. An image of another program may be
  * fuller than a canonical one, and then grows: a list of eight becomes a set, and a set that is more than three quarters
  * full gets a larger table or becomes registers.
- * The bytes are hashed as they are, as in Python, SQL, Java and C++. The original crate for Rust, and update of the Rattle
- * crates, hash a str with a byte ff after it: "ann" from there and "ann" from here are two values.
+ * The bytes are hashed as they are, as in Python, SQL, Java and C++. The Rust crate datasketches, and update of the crates for
+ * Rust and Rattle here, hash a str with a byte ff after it: "ann" from there and "ann" from here are two values.
  * Returns HLL_OK, 1 to 11, HLL_ARGUMENT, HLL_MEMORY or HLL_BUFFER. Allocates the memory of reading, and the image. */
 hll_status hll_image_add(const uint8_t *image, size_t len, const uint8_t *values, size_t values_len,
                          const size_t *ends, size_t n, uint8_t *out, size_t room, size_t *size);
@@ -268,7 +268,7 @@ hll_status hll_images_union(unsigned lg_max_k, unsigned width, const uint8_t *im
                             const size_t *ends, size_t n, uint8_t *out, size_t room, size_t *size, size_t *failed);
 
 /* Writes the union of n images that need not be contiguous, as hll_images_union does.
- * Returns and allocates what that call does. */
+ * Returns and allocates what hll_images_union does. */
 hll_status hll_images_unionv(unsigned lg_max_k, unsigned width, const hll_bytes *parts, size_t n, uint8_t *out,
                              size_t room, size_t *size, size_t *failed);
 
@@ -285,7 +285,7 @@ hll_status hll_image_fold(const uint8_t *image, size_t len, unsigned lg_k, uint8
  * image. */
 hll_status hll_image_convert(const uint8_t *image, size_t len, unsigned width, uint8_t *out, size_t room, size_t *size);
 
-/* Writes the image with the estimator fields that follow from its registers, and the out-of-order flag, whatever they were.
+/* Writes the image with the estimator fields that follow from its registers, and the out-of-order flag, whatever they were before.
  * Lists and sets have no such fields, and are written as this library writes them.
  * Returns HLL_OK, 1 to 11, HLL_MEMORY or HLL_BUFFER. Allocates the memory of reading, and the image. */
 hll_status hll_image_set_estimator_fields(const uint8_t *image, size_t len, uint8_t *out, size_t room,
@@ -383,6 +383,8 @@ hll_status hll_registers_image(const uint8_t *registers, size_t count, unsigned 
  *     hll_state_estimate(state, room, &found);
  *     hll_state_image(state, room, 8, out, sizeof out, &size);
  *
+ * (A program also checks the statuses, and that malloc and realloc don't return NULL.)
+ *
  * On HLL_BUFFER the sketch is unchanged, and *size bytes are enough for the same call. *size is one and a half times what
  * is needed, and at most HLL_STATE_MOST, so a loop reallocates only a few times. The bytes may be moved, and need no alignment.
  * They are the same on processors of either byte order, but may change with the version of the library: store images in
@@ -439,7 +441,7 @@ hll_status hll_state_add_coupons(void *state, size_t room, size_t *size, const u
 hll_status hll_state_join(unsigned lg_max_k, void *state, size_t room, size_t *size, const uint8_t *image, size_t len);
 
 /* Merges the sketch of another state into a state, as hll_state_join does with an image. The bytes of the other state may
- * change, but not its sketch. The two must not overlap.
+ * change, but not its sketch. The two states must not overlap.
  * Returns HLL_OK, HLL_REGISTER, HLL_ARGUMENT, HLL_BUFFER or HLL_OTHER_LG_K. Allocates nothing. */
 hll_status hll_state_join_state(unsigned lg_max_k, void *state, size_t room, size_t *size, void *other,
                                 size_t other_room);
