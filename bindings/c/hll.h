@@ -230,9 +230,9 @@ hll_status hll_image_histogram(const uint8_t *image, size_t len, hll_histogram *
 hll_status hll_image_new(unsigned lg_k, unsigned width, uint8_t *out, size_t room, size_t *size);
 
 /* Writes the image with n more values: byte strings, delimited by `ends`. Pass many at once, because each call reads the
- * whole image and writes it again. A value that a canonical image already has changes nothing. An image of another program may be
- * fuller than a canonical one, and then grows: a list of eight becomes a set, and a set that is more than three quarters
- * full gets a larger table or becomes registers.
+ * whole image and writes it again. A value that a canonical image already has changes nothing. An image of another program
+ * may be fuller than a canonical one, and then grows: a list of eight becomes a set, and a set that is more than three
+ * quarters full gets a larger table or becomes registers.
  * The bytes are hashed as they are, as in Python, SQL, Java and C++. The Rust crate datasketches, and update of the crates for
  * Rust and Rattle here, hash a str with a byte ff after it: "ann" from there and "ann" from here are two values.
  * Returns HLL_OK, 1 to 11, HLL_ARGUMENT, HLL_MEMORY or HLL_BUFFER. Allocates the memory of reading, and the image. */
@@ -285,8 +285,8 @@ hll_status hll_image_fold(const uint8_t *image, size_t len, unsigned lg_k, uint8
  * image. */
 hll_status hll_image_convert(const uint8_t *image, size_t len, unsigned width, uint8_t *out, size_t room, size_t *size);
 
-/* Writes the image with the estimator fields that follow from its registers, and the out-of-order flag, whatever they were before.
- * Lists and sets have no such fields, and are written as this library writes them.
+/* Writes the image with the estimator fields that follow from its registers, and the out-of-order flag, whatever they were
+ * before. Lists and sets have no such fields, and are written as this library writes them.
  * Returns HLL_OK, 1 to 11, HLL_MEMORY or HLL_BUFFER. Allocates the memory of reading, and the image. */
 hll_status hll_image_set_estimator_fields(const uint8_t *image, size_t len, uint8_t *out, size_t room,
                                           size_t *size);
