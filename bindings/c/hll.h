@@ -532,7 +532,7 @@ static inline const char *hll_message(hll_status status)
         "The lg_k byte is outside 4 to 21.",
         "The width bits are 3.",
         "The stage bits are 3.",
-        "The preamble words do not fit the stage.",
+        "The preamble size does not fit the stage.",
         "The size of a table is outside its range.",
         "A count is above its bound, or not the number of filled buckets.",
         "A coupon has the value 0 where a coupon is needed, or comes twice.",

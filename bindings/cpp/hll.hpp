@@ -20,6 +20,7 @@
 //     hll::lg_k_error          a union without a bound was given a sketch of another lg_k
 //     std::invalid_argument    an argument is out of range
 //     std::bad_alloc           an allocation failed
+//     std::logic_error         other code has overwritten the memory of the object
 //
 // Threads. Several threads can call const members of one object at once, as with a container of the standard library.
 // While one thread calls another member, no other thread may use the object. The calls of hll.h that read a state may

@@ -13,7 +13,7 @@ _MEANINGS = {
     "lgk": "the lg_k byte is outside 4 to 21",
     "width": "the width bits are 3",
     "stage": "the stage bits are 3",
-    "preamble": "the preamble words do not fit the stage",
+    "preamble": "the preamble size does not fit the stage",
     "lgarr": "the size of a table is outside its range",
     "count": "a count is above its bound, or not the number of filled buckets",
     "coupon": "a coupon has the value 0, or comes twice",
