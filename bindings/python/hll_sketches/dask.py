@@ -18,10 +18,11 @@ A task reads images and returns the image of their union. Further tasks merge th
 a time. The union is the same however images are grouped, ordered or repeated. So it doesn't change
 if a task runs again because its worker was lost.
 
-Sketches of one ``lg_k`` are merged at it, and sketches of different ``lg_k`` only if ``lg_max_k``
-is given, as by ``hll_sketches.union_of``. Empty sketches count for nothing.
+Without ``lg_max_k``, all sketches that are not empty must have the same ``lg_k``, as for
+``hll_sketches.union_of``.
 
-The package and its library have to be installed on each worker. Needs ``dask`` 2022.12 or later.
+The package and its library have to be installed on each worker. This module needs ``dask`` 2022.12
+or later.
 """
 from __future__ import annotations
 

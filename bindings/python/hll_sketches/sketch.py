@@ -209,7 +209,7 @@ class Sketch:
     def read(cls: Type[_S], path: Union[str, "os.PathLike[str]"]) -> _S:
         """Read the file of a sketch.
 
-        It reads no more bytes than the image has by its first bytes.
+        The first bytes of the file say how long the image is. No further bytes are read.
 
         Raises
         ------
@@ -361,9 +361,9 @@ class Sketch:
     def merge(self, other: "Sketch", lg_max_k: Optional[int] = None) -> None:
         """Merge another sketch into this one, which becomes the union of both.
 
-        Sketches of the same ``lg_k`` are merged at that ``lg_k``. Sketches of different ``lg_k`` are
-        merged only if ``lg_max_k`` is given. If one sketch is empty, the union is the other. The
-        union has the width of both sketches, or width 8 if they differ.
+        Without ``lg_max_k``, both sketches must have the same ``lg_k``, unless one of them is empty.
+        If one sketch is empty, the union is the other. The union has the width of both sketches, or
+        width 8 if their widths differ.
 
         Parameters
         ----------

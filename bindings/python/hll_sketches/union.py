@@ -31,8 +31,8 @@ def _images(sources: Iterable[Source]) -> Iterator[bytes]:
 class SketchUnion:
     """The union of sketches: the sketch of all values that any of them has.
 
-    Sketches of the same ``lg_k`` are merged at that ``lg_k``. Sketches of different ``lg_k`` are
-    merged only if ``lg_max_k`` is given. Empty sketches don't affect the ``lg_k``.
+    Without ``lg_max_k``, all sketches that are not empty must have the same ``lg_k``, and the union
+    has it too.
 
     The registers don't depend on the order of the sketches, on repetition, or on whether some of them
     were merged before with the same ``lg_max_k``. Any number of threads may use a union at once.
@@ -209,10 +209,10 @@ def union_of(
 ) -> Sketch:
     """Return the union of sketches or images.
 
-    This is the fastest way to merge many sketches. Sketches of the same ``lg_k`` are merged at that
-    ``lg_k``. Sketches of different ``lg_k`` are merged only if ``lg_max_k`` is given. Empty sketches
-    don't affect the ``lg_k``. If all sketches are empty, the union has their greatest ``lg_k``, or
-    ``lg_max_k``. Without sketches the union is empty, at ``lg_max_k`` or at 12.
+    This is the fastest way to merge many sketches. Without ``lg_max_k``, all sketches that are not
+    empty must have the same ``lg_k``, and the union has it too. If all sketches are empty, the union
+    has their greatest ``lg_k``, or ``lg_max_k``. Without sketches the union is empty, at ``lg_max_k``
+    or at 12.
 
     Parameters
     ----------
