@@ -105,7 +105,7 @@ class _Files:
             self.merge()
 
     def merge(self) -> None:
-        """Merges the files of the batch, and leaves out those that are not images."""
+        """Merges the files of the batch, and leaves out files that are not images."""
         names, images = self._names, self._images
         self._names, self._images, self._bytes = [], [], 0
         done = 0
@@ -136,7 +136,7 @@ class _Files:
 
 
 def union_of_group(lg_max_k: int, names: Group) -> Part:
-    """Returns the union of the files of a group, without those that are not images."""
+    """Returns the union of the files of a group, without files that are not images."""
     files = _Files(lg_max_k)
     for name in names:
         files.take(name)
@@ -148,7 +148,7 @@ def union_of_group(lg_max_k: int, names: Group) -> Part:
 
 
 def _groups(names: Iterable[str]) -> Iterator[Group]:
-    """Yields the files in groups. Standard input is a group of its own."""
+    """Yields the files in groups. Standard input is a separate group."""
     source = iter(names)
     while True:
         group = list(islice(source, GROUP))
