@@ -497,7 +497,10 @@ class Sketch:
         return _library.info(self.to_bytes()).zeros
 
     def histogram(self) -> List[int]:
-        """Return how many registers have each value from 0 to 63. A list or a set counts as registers."""
+        """Return how many registers have each value from 0 to 63.
+
+        Coupons of a list or a set count as the registers that they would set.
+        """
         return _library.histogram(self.to_bytes())
 
     # ---- estimates
