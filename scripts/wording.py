@@ -21,7 +21,7 @@ CPP = ("bindings/cpp/hll.hpp",)
 RUST = ("bindings/rust/src/**/*.rs",)
 MESSAGES = {
     "Python": PYTHON,
-    "C": C,
+    "C": (*C, "programs/*.c"),
     "C++": CPP,
     "PostgreSQL": ("bindings/postgresql/*.c", "bindings/postgresql/*.h"),
     "SQLite": ("bindings/sqlite/*.c", "bindings/sqlite/*.h"),
