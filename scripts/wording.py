@@ -23,7 +23,7 @@ MESSAGES = {
     "Python": PYTHON,
     "C": (*C, "programs/*.c"),
     "C++": CPP,
-    "PostgreSQL": ("bindings/postgresql/*.c", "bindings/postgresql/*.h"),
+    "PostgreSQL": ("bindings/postgresql/*.c", "bindings/postgresql/*.h", "bindings/postgresql/hll_sketches*.sql"),
     "SQLite": ("bindings/sqlite/*.c", "bindings/sqlite/*.h"),
     "Rust": (*RUST, "bindings/rust/build.rs"),
 }
@@ -40,6 +40,7 @@ BUILT = {"out", "build", "dist", "target", "__pycache__"}
 
 # A comment, which is skipped, or a literal. A single quote begins a character, or a lifetime of Rust.
 TOKENS = re.compile(r'/\*.*?\*/|//[^\n]*|\'(?:\\.|[^\'\\\n])\'|"((?:\\.|[^"\\])*)"', re.S)
+SQL_TOKENS = re.compile(r"--[^\n]*|'((?:[^']|'')*)'")
 BETWEEN = re.compile(r'"\s+"')
 COMMENTS = re.compile(r'"(?:\\.|[^"\\])*"|(/\*.*?\*/|//[^\n]*)', re.S)
 DOC_LINE = re.compile(r"^\s*//[/!] ?(.*)$", re.M)
@@ -83,6 +84,13 @@ def literals_of_c(text):
             yield line_at(text, found.start()), found[1]
 
 
+def literals_of_sql(text):
+    """The line and the text of each literal of SQL."""
+    for found in SQL_TOKENS.finditer(text):
+        if found[1] is not None:
+            yield line_at(text, found.start()), found[1]
+
+
 def messages(host):
     """The file, the line and the text of each message of a host."""
     for path in files(MESSAGES[host]):
@@ -90,7 +98,7 @@ def messages(host):
         if path.suffix == ".py":
             literals = ((line, message) for line, message, is_documentation in texts_of_python(text) if not is_documentation)
         else:
-            literals = literals_of_c(text)
+            literals = literals_of_sql(text) if path.suffix == ".sql" else literals_of_c(text)
         for line, message in literals:
             if " " in message.strip():
                 yield path, line, " ".join(message.split())

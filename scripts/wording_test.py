@@ -91,6 +91,10 @@ class WordingTest(unittest.TestCase):
         text = "/* it is anew */\nchar c = '\"';\nfail(\"it is \"\n     \"refused\"); // anew too\n"
         self.assertEqual(self.messages("made.c", text), ['made.c:3: "refused"'])
 
+    def test_messages_of_sql(self):
+        text = "-- it's anew\nCOMMENT ON f IS 'it''s refused -- and anew';\nSELECT 'anew';\n"
+        self.assertEqual(self.messages("made.sql", text), ['made.sql:2: "anew"', 'made.sql:2: "refused"'])
+
     def test_too_few_texts(self):
         found = list(wording.faults([], {}))
         self.assertEqual(found, ["0 texts were found, and there are more"])
