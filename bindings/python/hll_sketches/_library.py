@@ -208,8 +208,8 @@ def _check_answers(calls: Dict[str, Call]) -> None:
     counts = list(_filled(calls["hll_image_histogram"], Histogram).counts)
     if counts != [1023, 0, 0, 1] + [0] * 60:
         raise ImportError("its histogram is laid out in another way")
-    found = _filled(calls["hll_estimate"], Estimation)
-    if not 0 < found.lower[2] <= found.estimate <= found.upper[2] < 9:
+    estimation = _filled(calls["hll_estimate"], Estimation)
+    if not 0 < estimation.lower[2] <= estimation.estimate <= estimation.upper[2] < 9:
         raise ImportError("its estimation is laid out in another way")
 
 
