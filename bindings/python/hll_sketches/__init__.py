@@ -1,7 +1,7 @@
 # SPDX-License-Identifier: Apache-2.0
 """HyperLogLog sketches in the DataSketches format.
 
-A sketch counts distinct values in a few kilobytes, within a per cent or two. Sketches can be
+A sketch counts distinct values in a few kilobytes, within a percent or two. Sketches can be
 merged into the sketch of all their values.
 
     >>> from hll_sketches import Sketch, union_of
