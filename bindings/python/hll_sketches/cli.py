@@ -180,7 +180,7 @@ def _add(parser: argparse.ArgumentParser) -> None:
 
 _COMMANDS = (
     ("merge", _merge, "merge any number of files", "hll merge days -o year.hll"),
-    ("info", _info, "show what the images of files say", "hll info year.hll"),
+    ("info", _info, "print lg_k, width, stage, estimate and more of each file", "hll info year.hll"),
     ("estimate", _estimate, "print the estimated number of distinct values", "hll estimate *.hll"),
     ("check", _check, "print the files that are not images, and why", "hll check days"),
     ("fold", _fold, "make a sketch smaller", "hll fold a.hll --lg-k 10 -o b.hll"),
