@@ -165,7 +165,7 @@ class Server:
     def make_earlier(self):
         """Scripts of an earlier version: without merges of two sketches, and without the short names."""
         extensions = self.inside(folder(self.pg_config, "sharedir")) / "extension"
-        for name, first, last in (("hll_sketches", "-- ---- two sketches", "-- ---- what the aggregates"), ("hll_sketches_agg", "DO $$\nDECLARE", "")):
+        for name, first, last in (("hll_sketches", "-- ---- two sketches", "-- ---- functions of the aggregates"), ("hll_sketches_agg", "DO $$\nDECLARE", "")):
             script, = HERE.glob(name + "--*.sql")
             text, version = script.read_text(), script.stem.split("--")[1]
             start = text.index(first)
