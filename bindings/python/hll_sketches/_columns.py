@@ -1,8 +1,8 @@
 # SPDX-License-Identifier: Apache-2.0
 """Columns: numbers, or byte strings of one width, in contiguous memory.
 
-An object that shares its memory (a NumPy array, an ``array.array``, a ``memoryview``, a pandas
-``Series`` of numbers) is read by its format, and none of its values becomes a Python object.
+An object that shares its memory (a NumPy array, an ``array.array``, a ``memoryview``) is read by its
+format, and none of its values becomes a Python object.
 """
 from __future__ import annotations
 
@@ -176,15 +176,14 @@ def _view_of(values: object) -> Optional[memoryview]:
 
 
 def column_of(values: Any) -> Optional[Column]:
-    """Returns values as a column, or None if they are not one, or have another format.
+    """Returns values as a column, or None if they are not one, or have another format. A column of
+    pandas has to be passed as its ``values_of``.
 
     Raises
     ------
     TypeError
         If they are a table, or one value.
     """
-    if hasattr(values, "iloc") and hasattr(values, "to_numpy"):     # a pandas Series
-        values = values.to_numpy()
     view = _view_of(values)
     if view is None:
         return None
@@ -211,7 +210,7 @@ def singly(values: Any) -> Iterable[Any]:
     a time, as lists would turn some of them into numbers."""
     is_of_dates = getattr(getattr(values, "dtype", None), "kind", "") in ("M", "m")
     is_array = hasattr(values, "dtype") and hasattr(values, "tolist")
-    if is_of_dates or not is_array or hasattr(values, "iloc"):
+    if is_of_dates or not is_array:
         return values       # type: ignore[no-any-return]
     lists, step = _lists_of(values), 1 << 12
     return chain.from_iterable(lists(at, at + step) for at in range(0, len(values), step))

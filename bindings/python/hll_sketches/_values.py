@@ -14,6 +14,7 @@ from ._columns import Batch, Column, bytes_of_float, column_of, eights_of_floats
 from ._columns import singly
 from ._library import Numbers
 from ._missing import Missing
+from ._series import is_of_pandas, values_of
 
 Value = Union[bytes, bytearray, memoryview, str, int, float, SupportsIndex]
 """What can be counted: bytes, text, or a number."""
@@ -24,7 +25,7 @@ LEAST, MOST, ENOUGH = 1 << 10, 1 << 16, 1 << 20
 def bytes_of_int(value: int) -> bytes:
     """Returns the eight bytes of an int, little-endian, in two's complement."""
     try:
-        return value.to_bytes(8, "little", signed=value < 0)
+        return int.to_bytes(value, 8, "little", signed=value < 0)
     except OverflowError:
         raise OverflowError(
             f"an int has to be within -2^63 and 2^64 - 1, and one has {value.bit_length()} bits: "
@@ -50,6 +51,8 @@ def bytes_of(value: Value) -> bytes:
 
 def _bytes_of_other(value: Value) -> bytes:
     """Returns the bytes of a value of a derived type, of a NumPy type, or of a type with ``__index__``."""
+    if isinstance(value, (bytes, bytearray)):
+        return memoryview(value).tobytes()      # a derived type may say that it has another length
     for kind, call in _of_type.items():
         if isinstance(value, kind):
             return call(value)
@@ -158,6 +161,8 @@ def batches(
     An image of `size` bytes is read and written for each batch.
     """
     _refuse_one(values)
+    if is_of_pandas(values):
+        values = values_of(values)
     column = column_of(values)
     if column is not None:
         yield from _batches_of(column, size, missing)

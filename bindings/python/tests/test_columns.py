@@ -22,6 +22,10 @@ try:
     import pandas
 except ImportError:
     pandas = None
+try:
+    import pyarrow
+except ImportError:
+    pyarrow = None
 
 SYSTEM = "/usr/bin/python3"
 INTEGERS = [0, 1, -1, 2, 100, 127, -128, 255, 256, 32767, -32768, 65535, 2**31 - 1, -2**31,
@@ -354,6 +358,165 @@ class NumPyTest(ColumnTest):
         self.assertRaises(TypeError, skipped, pandas.Series(pandas.to_datetime(["2026-11-28", None])))
 
 
+def fake_numbers():
+    """A column of integers in pandas that makes floats of all of them when it makes an array, as that of
+    ``Int64`` with a missing value does since pandas 2.2."""
+    extensions = pandas.api.extensions
+
+    class Kind(extensions.ExtensionDtype):
+        name, type, kind, na_value = "fake", int, "i", pandas.NA
+
+        @classmethod
+        def construct_array_type(cls):
+            return Numbers
+
+    class Numbers(extensions.ExtensionArray):
+        def __init__(self, values):
+            self.values = list(values)
+
+        @property
+        def dtype(self):
+            return Kind()
+
+        @classmethod
+        def _from_sequence(cls, scalars, *, dtype=None, copy=False):
+            return cls(scalars)
+
+        def __getitem__(self, item):
+            if isinstance(item, (int, numpy.integer)):
+                return self.values[item]
+            return Numbers(numpy.array(self.values, object)[item])
+
+        def __len__(self):
+            return len(self.values)
+
+        def isna(self):
+            return numpy.array([value is pandas.NA for value in self.values], bool)
+
+        def copy(self):
+            return Numbers(self.values)
+
+        def __array__(self, dtype=None, copy=None):
+            return self.to_numpy(dtype)
+
+        def to_numpy(self, dtype=None, copy=False, na_value=None):
+            floats = [math.nan if value is pandas.NA else float(value) for value in self.values]
+            return numpy.array(floats).astype(dtype or float)
+
+    return Numbers
+
+
+def as_since_2_2(kind):
+    """The extension array of a type of integers of pandas, whose ``to_numpy()`` makes floats where a value
+    is missing, in every version of pandas."""
+    class Integers(type(pandas.array([1], dtype=kind))):
+        def to_numpy(self, dtype=None, copy=False, na_value=math.nan):
+            if dtype is None and self.isna().any():
+                return super().to_numpy(dtype=float, na_value=math.nan)
+            return super().to_numpy(dtype=dtype or self.dtype.numpy_dtype)
+
+    plain = pandas.array([1, 2**53 + 1, None, 2**53], dtype=kind)
+    return Integers(plain._data, plain._mask)
+
+
+class PandasCheck(ColumnTest):
+    """What a column of pandas has to do."""
+
+    LARGE = [2**60 + number for number in range(100)]
+
+    def refused_or_skipped(self, column, wanted):
+        """A column with missing values counts as these values, or is refused at the first missing one."""
+        for call in (Sketch().update_many, Registers(11).update_many):
+            with self.assertRaisesRegex(ArgumentError, "is missing .*: pass skip_missing=True"):
+                call(column)
+        self.assertEqual(skipped(column), one_by_one(wanted), column)
+
+
+class PandasTest(PandasCheck):
+    """Columns of every dtype: an integer counts as an integer, whether a value is missing or not."""
+
+    def test_integers_with_missing_values(self):
+        for bits in (8, 16, 32, 64):
+            for kind in (f"Int{bits}", f"UInt{bits}"):
+                most = min(100, 2 ** (bits - 1) - 1)
+                column = pandas.Series([*range(most), None, most], dtype=kind)
+                for shown in (column, column.array, pandas.Index(column), column[::-1]):
+                    self.refused_or_skipped(shown, range(most + 1))
+                self.check(column.dropna(), range(most + 1))
+        self.refused_or_skipped(pandas.Series([*self.LARGE, None], dtype="Int64"), self.LARGE)
+        self.refused_or_skipped(pandas.Series([2**64 - 1, None], dtype="UInt64"), [2**64 - 1])
+
+    def test_a_month_of_days(self):
+        """Days with a missing value and days without one have the same visitors."""
+        month = Sketch(14)
+        for number in range(30):
+            day, values = Sketch(14), [*range(1000), *[None] * (number % 2)]
+            day.update_many(pandas.Series(values, dtype="Int64"), skip_missing=True)
+            month |= day
+        wanted = Sketch(14)
+        wanted.update_many(range(1000))
+        self.assertEqual(month, wanted)
+
+    def test_to_numpy_that_makes_floats(self):
+        for kind in ("Int64", "UInt64"):
+            self.refused_or_skipped(as_since_2_2(kind), [1, 2**53 + 1, 2**53])
+        numbers = fake_numbers()
+        self.refused_or_skipped(pandas.Series(numbers([*self.LARGE, pandas.NA])), self.LARGE)
+        self.check(pandas.Series(numbers(self.LARGE)), self.LARGE)
+        self.check(numbers(self.LARGE), self.LARGE)
+
+    def test_categories(self):
+        """``to_numpy()`` of categories makes floats in every version of pandas."""
+        for values in ([1, 2, 2**53 + 1, 1], ["a", "b", "a"], [1.5, 2.5], [True, False], [7, "7"],
+                       self.LARGE, pandas.array([1, 2**53 + 1], dtype="Int64")):
+            column = pandas.Series(pandas.Categorical(values))
+            self.check(column, list(values))
+            self.refused_or_skipped(pandas.Series(pandas.Categorical([*values, None])), list(values))
+        self.assertRaises(TypeError, skipped, pandas.Series(pandas.Categorical(
+            pandas.to_datetime(["2026-11-28", "2026-11-29"]))))
+        self.assertEqual(skipped(pandas.Series(pandas.Categorical([None, None]))), one_by_one([]))
+
+    def test_other_dtypes(self):
+        true = pandas.Series([True, None, False], dtype="boolean")
+        self.refused_or_skipped(true, [1, 0])
+        self.refused_or_skipped(pandas.Series([1.5, None, -0.0], dtype="Float64"), [1.5, 0.0])
+        self.refused_or_skipped(pandas.Series([1.5, None], dtype="Float32"), [1.5])
+        self.refused_or_skipped(pandas.Series(["a", None, "b"], dtype="string"), ["a", "b"])
+        for values in ([1, 2, 0, 0], [1.5, 0.0], [2**53 + 1, 0]):
+            self.check(pandas.Series(pandas.arrays.SparseArray(values)), values)
+        self.check(pandas.RangeIndex(5), range(5))
+        self.check(pandas.Index(["a", "b"]), ["a", "b"])
+        for column in (
+            pandas.Series(pandas.period_range("2026-01", periods=2, freq="M")),
+            pandas.Series(pandas.interval_range(0, 2)),
+            pandas.Series(pandas.date_range("2026-01-01", periods=2, tz="UTC")),
+            pandas.DatetimeIndex(["2026-11-28"]),
+        ):
+            self.assertRaises(TypeError, skipped, column)
+
+    def test_an_array_of_another_type(self):
+        """A column is refused by name if its array has another type than the column."""
+        class Column:
+            dtype = numpy.dtype("int64")
+
+            def to_numpy(self):
+                return numpy.array([1.0, 2.0])
+
+        with self.assertRaisesRegex(TypeError, "a Column of int64 .* an array of float64: pass a list"):
+            Sketch().update_many(Column())
+
+
+class ArrowTest(PandasCheck):
+    """Columns that Arrow keeps, where it is here."""
+
+    def test_arrow(self):
+        for kind, values in (("int64[pyarrow]", self.LARGE), ("uint8[pyarrow]", [1, 255]),
+                             ("double[pyarrow]", [1.5]), ("bool[pyarrow]", [True]),
+                             ("string[pyarrow]", ["a"])):
+            self.check(pandas.Series(values, dtype=kind), values)
+            self.refused_or_skipped(pandas.Series([*values, None], dtype=kind), values)
+
+
 class OtherPythonTest(unittest.TestCase):
     def test_numpy(self):
         """The tests of NumPy, in the system's Python, which may have it where this one hasn't."""
@@ -368,6 +531,10 @@ if numpy is None:
     del NumPyTest
 else:
     del OtherPythonTest
+if pandas is None:
+    del PandasTest
+if pyarrow is None or pandas is None:
+    del ArrowTest
 
 
 if __name__ == "__main__":
