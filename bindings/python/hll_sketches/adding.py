@@ -11,6 +11,24 @@ BLOCK = 1 << 20
 """The number of bytes that are read at a time."""
 
 
+LONGEST_LINE = 1 << 26
+"""The most bytes of a line, unless another number is given."""
+
+
+class LongLineError(ValueError):
+    """A line is too long.
+
+    Attributes
+    ----------
+    number : int
+        The number of the line, from 1.
+    """
+
+    def __init__(self, number: int) -> None:
+        super().__init__(number)
+        self.number = number
+
+
 class LineError(ValueError):
     """A line is not an integer.
 
@@ -44,6 +62,8 @@ class Lines:
     are_ints : bool
         Whether each line is a decimal 64-bit integer and counts as an ``int``. Otherwise each line
         is a text.
+    longest : int
+        The most bytes of a line, without its LF.
 
     Attributes
     ----------
@@ -55,9 +75,11 @@ class Lines:
         How many texts ended in a CR, which is part of the text.
     """
 
-    def __init__(self, image: bytes, are_ints: bool = False) -> None:
+    def __init__(
+        self, image: bytes, are_ints: bool = False, longest: int = LONGEST_LINE
+    ) -> None:
         self.image, self.count, self.ending_in_cr = image, 0, 0
-        self._are_ints = are_ints
+        self._are_ints, self._longest = are_ints, longest
 
     def add(self, stream: BinaryIO, more: Optional[Callable[[int], None]] = None) -> None:
         """Adds each line of a stream.
@@ -68,7 +90,8 @@ class Lines:
         Parameters
         ----------
         stream : binary file
-            It is read to its end, in blocks. A line may be longer than a block.
+            It is read to its end, in blocks. A line may be longer than a block, and is kept until its
+            end.
         more : callable, optional
             Called with the number of lines of each block.
 
@@ -76,15 +99,23 @@ class Lines:
         ------
         LineError
             If lines are integers and this one isn't.
+        LongLineError
+            If a line is longer than ``longest``. The lines before it, up to some of the same block, have
+            been added.
         """
         begun: List[bytes] = []
+        size = 0        # of the line that has begun
         for block in iter(lambda: stream.read(BLOCK), b""):
             end = block.rfind(b"\n")
             if end < 0:
                 begun.append(block)
+                size += len(block)
+                if size > self._longest:
+                    raise LongLineError(self.count + 1)
                 continue
             number = self._add_lines(b"".join([*begun, block[:end]]).split(b"\n"))
             begun = [block[end + 1 :]]
+            size = len(begun[0])
             if more is not None:
                 more(number)
         last = b"".join(begun)
@@ -93,6 +124,9 @@ class Lines:
 
     def _add_lines(self, lines: List[bytes]) -> int:
         """Adds lines, and returns their number."""
+        if max(map(len, lines)) > self._longest:
+            long = next(n for n, line in enumerate(lines) if len(line) > self._longest)
+            raise LongLineError(self.count + long + 1)
         if self._are_ints:
             batch = joined(self._ints_of(lines))
         else:

@@ -12,7 +12,9 @@ import textwrap
 from typing import IO, Any, Callable, List, Optional
 
 from . import __version__, commands
+from ._names import ESCAPING
 from ._signals import end_at_once
+from .adding import LONGEST_LINE
 from .files import REFUSED, STANDARD, UNUSABLE, OutputTrouble, Trouble
 
 _ABOUT = "HyperLogLog sketches in the DataSketches format: make, merge, compare and look at them."
@@ -46,6 +48,7 @@ def _number(least: int, most: float, what: str) -> Callable[[str], int]:
 _lg_k = _number(4, 21, "an lg_k is 4 to 21")
 _jobs = _number(1, 1024, "the number of jobs is 1 to 1024")
 _most = _number(0, float("inf"), "a number of slots")
+_bytes = _number(0, float("inf"), "a number of bytes")
 
 
 # ---- arguments of several commands
@@ -175,6 +178,12 @@ def _add(parser: argparse.ArgumentParser) -> None:
     _with_output(parser, help="the file to write (FILE itself); - is standard output")
     help_ = "what a line counts as: a text (default), or an integer in decimal, as in Python and SQL"
     parser.add_argument("--as", dest="kind", choices=("text", "int"), default="text", help=help_)
+    help_ = "wait for as long as another process holds the lock of FILE, and not ten seconds"
+    parser.add_argument("--wait", action="store_true", help=help_)
+    help_ = f"the most bytes of a line, without its LF ({LONGEST_LINE:,})"
+    parser.add_argument(
+        "--longest-line", type=_bytes, metavar="BYTES", default=LONGEST_LINE, help=help_
+    )
     _with_plain(parser)
 
 
@@ -195,12 +204,14 @@ _MORE = {
     "Files of different lg_k are merged only with --lg-k. The width is that of the files, or 8 if "
     "they differ.",
     "estimate": "With several files, the name of the file follows the numbers.",
-    "check": "Nothing is printed for a file that is a sketch.",
+    "check": "Nothing is printed for a file that is a sketch. An image has no checksum, so a flipped "
+    "bit can give another sketch, which is not noticed.",
     "fold": "The result is the sketch that the same values make with that lg_k.",
     "diff": "Exit status: 0 if they agree, once folded to the smaller lg_k; 1 if they differ; 2 for an error.",
     "new": "Add values to it with `hll add`.",
     "add": "A line counts as a text: its bytes without the LF, including a CR. An empty line is a "
-    "text too. So 7 is a text and not the integer 7, unless --as int is given.",
+    "text too. So 7 is a text and not the integer 7, unless --as int is given. If another process "
+    "holds the lock of FILE for ten seconds, nothing is added, unless --wait is given.",
 }
 
 
@@ -274,7 +285,7 @@ def _settled() -> None:
     _held_open()
     for stream in (sys.stdout, sys.stderr):
         if isinstance(stream, io.TextIOWrapper):
-            stream.reconfigure(errors="surrogateescape")
+            stream.reconfigure(errors=ESCAPING)
     if hasattr(signal, "SIGPIPE"):
         signal.signal(signal.SIGPIPE, signal.SIG_DFL)
 

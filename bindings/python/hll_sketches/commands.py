@@ -14,7 +14,7 @@ from typing import Any, Callable, Dict, Iterator, List, Optional, Tuple
 from . import _library
 from ._errors import ArgumentError
 from ._names import shown
-from .adding import LineError, Lines
+from .adding import LineError, Lines, LongLineError
 from .files import STANDARD, UNUSABLE, OutputTrouble, Trouble, bytes_of_file, check_output
 from .files import image_of_file, image_trouble, locked, of_file, write_file
 from .finding import Tell, found, names_in
@@ -258,7 +258,9 @@ def merge(options: Namespace) -> int:
     with Bar("file") as bar:
         jobs = options.jobs or processors()
         names = named_files(options, refuse)
-        answer = union_of_files(names, options.lg_k or 0, options.width, jobs, refuse, bar.more)
+        answer = union_of_files(
+            names, options.lg_k or 0, options.width, jobs, refuse, bar.more, say
+        )
     if left_out and not options.skip_bad:
         return _worst(left_out, OK)
     if not answer.merged:
@@ -305,17 +307,18 @@ def add(options: Namespace) -> int:
 
     The lines are read first. Then the file is locked, read, and replaced by its union with the
     sketch of the lines. So several ``add`` may run on one file at the same time without losing
-    values, and none waits for the input of another.
+    values, and none waits for the input of another. It waits for the lock for ten seconds, or with
+    ``--wait`` for as long as another process holds it.
     """
     if options.file != STANDARD and not os.path.lexists(options.file):
         raise Trouble(options.file, "No such file or directory (hll new makes it)", UNUSABLE)
     lg_k = image_of_file(options.file)[3]
     options.output = options.output or options.file
     check_output(options.output, options.force)
-    lines = _lines_of_input(lg_k, options.kind == "int")
+    lines = _lines_of_input(lg_k, options.kind == "int", options.longest_line)
     if lines.ending_in_cr:
         say(f"standard input: {lines.ending_in_cr:,} lines end in a CR, which counts as a part of them")
-    with locked(options.file):
+    with locked(options.file, say if options.wait else None):
         image = image_of_file(options.file)
         if image[3] != lg_k:
             words = f"its lg_k has become {image[3]}, from {lg_k}, while lines were read: add them again"
@@ -325,12 +328,15 @@ def add(options: Namespace) -> int:
         return put(options, finished(image, options.plain), lines=lines.count)
 
 
-def _lines_of_input(lg_k: int, are_ints: bool) -> Lines:
+def _lines_of_input(lg_k: int, are_ints: bool, longest: int) -> Lines:
     """Returns a sketch of the lines of standard input."""
-    lines = Lines(_library.new(lg_k, 8), are_ints)
+    lines = Lines(_library.new(lg_k, 8), are_ints, longest)
     try:
         with open(os.dup(0), "rb") as stream, Bar("line") as bar:
             lines.add(stream, bar.more)
+    except LongLineError as error:
+        words = f"line {error.number:,} is longer than {longest:,} bytes (--longest-line changes this)"
+        raise Trouble("standard input", words) from None
     except LineError as error:
         line = error.line.decode("utf-8", "replace")
         words = f"line {error.number:,} is no integer of 64 bits: {shown(line)}"

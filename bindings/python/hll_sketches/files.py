@@ -7,7 +7,9 @@ import fcntl
 import os
 import stat
 import sys
+import time
 from contextlib import contextmanager, suppress
+from functools import partial
 from typing import Callable, Iterator, List, Optional, TypeVar
 
 from . import _library
@@ -17,13 +19,26 @@ from ._signals import ENDING, held_back
 from .layout import size_of
 
 T = TypeVar("T")
+Read = Callable[[int], bytes]
 
 STANDARD = "-"
 """The name of standard input, or of standard output."""
 
+
+class FoundName(str):
+    """The path of a file that was found in a folder, where anybody might put another file in its place. A
+    path that was named may be that of a pipe or a device."""
+
+
 PIECE = 1 << 16
 STEP = 4000
 """The most bytes of a path that the system accepts at once."""
+
+MOST_LINKS = 40
+"""The most links that are followed for a name, as the system does."""
+
+PATIENCE, MOMENT = 10.0, 0.02
+"""The seconds that a lock is waited for before this is said, and those between two tries."""
 
 REFUSED, UNUSABLE = 1, 2
 
@@ -124,23 +139,35 @@ def opened(path: str, flags: int) -> int:
 # ---- reading
 
 
-def _read_up_to(place: int, most: int) -> bytes:
+def _read_up_to(read: Read, most: int) -> bytes:
     """Returns ``most`` bytes, or fewer if the file ends."""
-    first = os.read(place, most)
+    first = read(most)
     pieces, rest = [first], most - len(first)
     while rest and pieces[-1]:
-        pieces.append(os.read(place, rest))
+        pieces.append(read(rest))
         rest -= len(pieces[-1])
     return first if len(pieces) == 1 else b"".join(pieces)
 
 
-def _read_image(place: int) -> bytes:
-    """Returns the bytes of an image, maybe followed by a few others."""
-    data = _read_up_to(place, PIECE)
+def read_image(read: Read) -> bytes:
+    """Returns the bytes of an image, maybe followed by a few others. ``read`` returns at most the number
+    of bytes that it is given, and none at the end of the file."""
+    data = _read_up_to(read, PIECE)
     if len(data) < PIECE:
         return data
     more = size_of(data) - PIECE
-    return data + _read_up_to(place, more) if more > 0 else data
+    return data + _read_up_to(read, more) if more > 0 else data
+
+
+def _opened_to_read(path: str) -> int:
+    """Opens a file. A file that was found in a folder has to be a plain file still."""
+    if not isinstance(path, FoundName):
+        return opened(path, os.O_RDONLY)
+    place = opened(path, os.O_RDONLY | os.O_NONBLOCK | os.O_NOCTTY)
+    if not stat.S_ISREG(os.fstat(place).st_mode):
+        os.close(place)
+        raise OSError(errno.EINVAL, "No plain file any more, as it was when its folder was read")
+    return place
 
 
 def read_path(path: str) -> bytes:
@@ -154,9 +181,9 @@ def read_path(path: str) -> bytes:
         If the file can't be read.
     """
     with _named_in_errors(path):
-        place = opened(path, os.O_RDONLY)
+        place = _opened_to_read(path)
         try:
-            return _read_image(place)
+            return read_image(partial(os.read, place))
         finally:
             os.close(place)
 
@@ -170,7 +197,7 @@ def bytes_of_file(name: str) -> bytes:
         If the file can't be read.
     """
     try:
-        return _read_image(0) if name == STANDARD else read_path(name)
+        return read_image(partial(os.read, 0)) if name == STANDARD else read_path(name)
     except OSError as error:
         raise unusable(name, error) from None
     except ValueError:
@@ -226,6 +253,38 @@ def _write_standard(data: bytes) -> None:
         raise OutputTrouble(error) from None
 
 
+def _check_link(name: str, link: str) -> None:
+    """Raises an error for a link that the kernel wouldn't follow where ``fs.protected_symlinks`` is set:
+    another user put it into a folder in which all users may make files, as into ``/tmp``."""
+    owner, folder = os.lstat(link).st_uid, os.stat(os.path.dirname(link) or os.curdir)
+    is_shared = folder.st_mode & stat.S_ISVTX and folder.st_mode & stat.S_IWOTH
+    if is_shared and owner not in (os.geteuid(), folder.st_uid):
+        words = "Permission denied (another user made this symbolic link in a folder for all users)"
+        raise OSError(errno.EACCES, words, name)
+
+
+def target_of(name: str) -> str:
+    """Returns the path of the file that is written for a name: a link is followed to its end.
+
+    Raises
+    ------
+    OSError
+        If a link must not be followed, or links lead in a circle.
+    """
+    path = os.fspath(name)
+    for _ in range(MOST_LINKS):
+        try:
+            target = os.readlink(path)
+        except (FileNotFoundError, OSError) as error:
+            if error.errno not in (errno.ENOENT, errno.EINVAL):
+                raise
+            folder, last = os.path.split(path)
+            return os.path.join(os.path.realpath(folder), last)
+        _check_link(name, path)
+        path = os.path.join(os.path.dirname(path), target)
+    raise OSError(errno.ELOOP, os.strerror(errno.ELOOP), name)
+
+
 def _status_of(path: str) -> Optional[os.stat_result]:
     """Returns the status of a file, or None if it doesn't exist."""
     try:
@@ -235,14 +294,15 @@ def _status_of(path: str) -> Optional[os.stat_result]:
 
 
 def _keep_owner_and_mode(place: int, before: os.stat_result) -> None:
-    """Gives a new file the owner, the group (if that is allowed) and the mode of the old file."""
+    """Gives a new file the owner, the group (if that is allowed) and the mode of the old file, without
+    its set-user-ID and set-group-ID bits, as any write does."""
     made = os.fstat(place)
     if made.st_uid != before.st_uid:
         os.fchown(place, before.st_uid, before.st_gid)
     elif made.st_gid != before.st_gid:
         with suppress(PermissionError):
             os.fchown(place, -1, before.st_gid)
-    os.fchmod(place, stat.S_IMODE(before.st_mode))
+    os.fchmod(place, stat.S_IMODE(before.st_mode) & ~(stat.S_ISUID | stat.S_ISGID))
 
 
 def _fill(place: int, data: bytes, before: Optional[os.stat_result]) -> None:
@@ -330,8 +390,10 @@ def _replace(path: str, data: bytes, before: Optional[os.stat_result]) -> None:
 
 def _write_into(path: str, data: bytes) -> None:
     """Writes into a pipe or a device."""
-    place = os.open(path, os.O_WRONLY)
+    place = os.open(path, os.O_WRONLY | os.O_CLOEXEC)
     try:
+        if stat.S_ISREG(os.fstat(place).st_mode):
+            raise OSError(errno.EINVAL, "It became a plain file meanwhile")
         _write_all(place, data)
     finally:
         os.close(place)
@@ -346,12 +408,12 @@ def write_path(name: str, data: bytes) -> None:
         If it can't be written.
     """
     with _named_in_errors(name):
-        path = os.path.realpath(name)
-        before = _status_of(path)
+        path = target_of(name)
+        before = _status_of(name)
         if before is None or stat.S_ISREG(before.st_mode):
             _replace(path, data, before)
         else:
-            _write_into(path, data)
+            _write_into(name, data)
 
 
 @contextmanager
@@ -400,8 +462,8 @@ def check_output(name: str, force: bool = False) -> None:
     if name == STANDARD:
         return
     with _reported_of(name):
-        path = os.path.realpath(name)
-        before = _status_of(path)
+        path = target_of(name)
+        before = _status_of(name)
         if before is not None and stat.S_ISDIR(before.st_mode):
             raise Trouble(name, "Is a directory", UNUSABLE)
         folder = os.path.dirname(path)
@@ -409,7 +471,8 @@ def check_output(name: str, force: bool = False) -> None:
         if before is not None and not stat.S_ISREG(before.st_mode):
             return
         if not os.access(folder, os.W_OK | os.X_OK):
-            raise Trouble(name, "Permission denied", UNUSABLE)
+            is_read_only = os.statvfs(folder).f_flag & os.ST_RDONLY
+            raise Trouble(name, os.strerror(errno.EROFS if is_read_only else errno.EACCES), UNUSABLE)
         if before is not None and not force:
             _check_kept(name, before)
 
@@ -425,24 +488,49 @@ def _is_named(place: int, path: str) -> bool:
         return False
 
 
+def _lock(place: int, name: str, still_waiting: Optional[Callable[[str], None]]) -> None:
+    """Locks an open file. Others may hold the lock for as long as they like, and need only be able to
+    read the file."""
+    end = time.monotonic() + PATIENCE
+    while time.monotonic() < end:
+        try:
+            fcntl.flock(place, fcntl.LOCK_EX | fcntl.LOCK_NB)
+            return
+        except BlockingIOError:
+            time.sleep(MOMENT)
+    words = f"another process has held its lock for {PATIENCE:.0f} seconds"
+    if still_waiting is None:
+        raise Trouble(name, f"{words}: nothing was added (--wait waits for as long as it takes)", UNUSABLE)
+    still_waiting(f"{shown(name)}: waits for its lock, as {words}")
+    fcntl.flock(place, fcntl.LOCK_EX)
+
+
 @contextmanager
-def locked(name: str) -> Iterator[None]:
+def locked(name: str, still_waiting: Optional[Callable[[str], None]] = None) -> Iterator[None]:
     """Holds the lock of a file, and waits for it first. The lock is that of the file that has the name
     then, and not of a file that was replaced while it waited.
+
+    Parameters
+    ----------
+    still_waiting : callable, optional
+        Called with what is said after ``PATIENCE`` seconds; then it goes on waiting.
 
     Raises
     ------
     Trouble
-        If the file can't be opened, or its file system has no locks.
+        If the file can't be opened, its file system has no locks, or ``still_waiting`` isn't given and
+        the file has been locked by others for ``PATIENCE`` seconds.
     """
     with _reported_of(name):
         place = opened(name, os.O_RDONLY)
-        fcntl.flock(place, fcntl.LOCK_EX)
-        while not _is_named(place, name):
-            os.close(place)
-            place = opened(name, os.O_RDONLY)
-            fcntl.flock(place, fcntl.LOCK_EX)
     try:
+        with _reported_of(name):
+            _lock(place, name, still_waiting)
+            while not _is_named(place, name):
+                other = opened(name, os.O_RDONLY)
+                os.close(place)
+                place = other
+                _lock(place, name, still_waiting)
         yield
     finally:
         os.close(place)

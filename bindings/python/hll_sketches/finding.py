@@ -5,12 +5,15 @@ from __future__ import annotations
 import errno
 import os
 import stat
-from typing import Callable, Iterable, Iterator, List, Tuple
+from typing import Callable, Iterable, Iterator, List, Optional, Tuple
 
-from .files import PIECE, STANDARD, UNUSABLE, Trouble, opened, unusable
+from .files import PIECE, STANDARD, UNUSABLE, FoundName, Trouble, opened, unusable
 
 LONGEST_NAME = 1 << 20
 """The most bytes of a name in a list."""
+
+MOST_STEPS = 1000
+"""The most folders that are gone up at once."""
 
 _FILE, _FOLDER = "file", "folder"
 _KINDS = {
@@ -20,6 +23,8 @@ _KINDS = {
     stat.S_IFCHR: "a device",
     stat.S_IFBLK: "a device",
 }
+
+_FLAGS = os.O_RDONLY | os.O_DIRECTORY | os.O_CLOEXEC
 
 Tell = Callable[[Trouble], None]
 
@@ -49,35 +54,124 @@ def _kind_of(entry: os.DirEntry[str]) -> str:
     return _FOLDER if entry.is_dir(follow_symlinks=False) else _kind_behind(entry)
 
 
-def _entries(folder: str) -> List[Tuple[str, str]]:
+Entries = List[Tuple[str, str]]
+
+
+def _entries(place: int) -> Entries:
     """Returns the names in a folder, in order, and what they are. Skips names that begin with a dot."""
-    place = opened(folder, os.O_RDONLY | os.O_DIRECTORY)
+    with os.scandir(place) as entries:
+        seen = (entry for entry in entries if not entry.name.startswith("."))
+        return sorted((entry.name, _kind_of(entry)) for entry in seen)
+
+
+class _Folder:
+    """A folder of a walk: its path, which folder it is, and what it still has, in reverse order."""
+
+    def __init__(self, path: str, place: int) -> None:
+        self.path, status = path, os.fstat(place)
+        self._identity = status.st_dev, status.st_ino
+        self.rest = _entries(place)[::-1]
+
+    def is_at(self, place: int) -> bool:
+        """Returns whether an open folder is this one."""
+        status = os.fstat(place)
+        return (status.st_dev, status.st_ino) == self._identity
+
+
+class _Walk:
+    """The folders from the first one down to the present one, which alone is open. So a walk needs few
+    open files, and each folder is opened from the one above it, however long its path is."""
+
+    def __init__(self) -> None:
+        self._above: List[_Folder] = []
+        self._place: Optional[int] = None
+        self._level = 0     # of the folder that is open, which may be below the present one
+
+    def enter(self, path: str, name: str) -> None:
+        """Opens a folder in the present one, or the first folder by its path."""
+        if not self._above:
+            place = opened(path, _FLAGS)
+        else:
+            self._return()
+            place = os.open(name, _FLAGS | os.O_NOFOLLOW, dir_fd=self._place)
+        try:
+            folder = _Folder(path, place)
+        except BaseException:
+            os.close(place)
+            raise
+        self._above.append(folder)
+        self._open(place)
+
+    def _open(self, place: int) -> None:
+        self.close()
+        self._place, self._level = place, len(self._above)
+
+    def _return(self) -> None:
+        """Opens the present folder again after folders below it: by their links to the folder above, or by
+        its path if that doesn't lead there, as somebody moved a folder."""
+        present = self._above[-1]
+        while self._place is not None and self._level > len(self._above):
+            steps = min(self._level - len(self._above), MOST_STEPS)
+            try:
+                above = os.open("/".join([".."] * steps), _FLAGS, dir_fd=self._place)
+            except OSError:
+                self.close()
+                break
+            os.close(self._place)
+            self._place, self._level = above, self._level - steps
+        if self._place is None or not present.is_at(self._place):
+            self._open(opened(present.path, _FLAGS))
+
+    def next(self) -> Optional[Tuple[str, str, str]]:
+        """Returns the path, the name and the kind of what comes next, or None at the end."""
+        while self._above:
+            present = self._above[-1]
+            if present.rest:
+                name, kind = present.rest.pop()
+                return os.path.join(present.path, name), name, kind
+            self._above.pop()
+        return None
+
+    def close(self) -> None:
+        if self._place is not None:
+            os.close(self._place)
+            self._place = None
+
+
+def _walked(folder: str, refuse: Tell, pass_over: Tell) -> Iterator[str]:
+    """Yields the files in a folder and its subfolders, in the order of their names."""
+    walk, path, name, kind = _Walk(), folder, folder, _FOLDER
     try:
-        with os.scandir(place) as entries:
-            seen = (entry for entry in entries if not entry.name.startswith("."))
-            return sorted((entry.name, _kind_of(entry)) for entry in seen)
+        while True:
+            if kind == _FILE:
+                yield FoundName(path)
+            elif kind != _FOLDER:
+                pass_over(Trouble(path, f"{kind} (passed over)"))
+            else:
+                try:
+                    walk.enter(path, name)
+                except OSError as error:
+                    refuse(unusable(path, error))
+            following = walk.next()
+            if following is None:
+                return
+            path, name, kind = following
     finally:
-        os.close(place)
+        walk.close()
 
 
 def _walk(folder: str, refuse: Tell, pass_over: Tell) -> Iterator[str]:
-    """Yields the files in a folder and its subfolders, in the order of their names."""
-    rest, is_silent = [(folder, _FOLDER)], True
-    while rest:
-        path, kind = rest.pop()
-        if kind == _FILE:
-            is_silent = False
-            yield path
-        elif kind == _FOLDER:
-            try:
-                entries = _entries(path)
-            except OSError as error:
-                is_silent = False
-                refuse(unusable(path, error))
-                continue
-            rest += [(os.path.join(path, name), kind) for name, kind in reversed(entries)]
-        else:
-            pass_over(Trouble(path, f"{kind} (passed over)"))
+    """Does what ``_walked`` does, and reports a folder without files."""
+    is_silent = True
+
+    def refused(trouble: Trouble) -> None:
+        nonlocal is_silent
+        is_silent = False
+        refuse(trouble)
+
+    for path in _walked(folder, refused, pass_over):
+        is_silent = False
+        yield path
     if is_silent:
         refuse(Trouble(folder, "no files in this folder", UNUSABLE))
 

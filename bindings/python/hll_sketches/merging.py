@@ -8,28 +8,22 @@ is the same however files are grouped, so the number of processes makes no diffe
 from __future__ import annotations
 
 import os
-import signal
-import sys
-import threading
 import warnings
-from collections import deque
-from itertools import islice
-from typing import TYPE_CHECKING, Callable, Deque, Iterable, Iterator, List, NamedTuple, Optional
-from typing import Tuple, Union as Either
+from contextlib import closing
+from functools import partial
+from itertools import chain, islice
+from typing import Callable, Generator, Iterable, Iterator, List, NamedTuple, Optional, Tuple
+from typing import Union as Either
 
-from . import _library
 from ._errors import FilesError, HllError, ImageError, PrecisionError
 from ._names import shown
-from ._signals import held_back
 from ._state import BATCH_BYTES, State
+from ._workers import WorkerLost, Workers
 from .files import STANDARD, Trouble, bytes_of_file, image_trouble
 from .finding import found
 from .layout import holds_values
 from .sketch import Sketch
 from .union import checked_bounds
-
-if TYPE_CHECKING:
-    from concurrent.futures import Future, ProcessPoolExecutor
 
 GROUP = 512
 """How many files a task reads."""
@@ -56,7 +50,7 @@ class Merged(NamedTuple):
 
 
 Group = List[str]
-Parts = Iterator[Part]
+Parts = Generator[Part, None, None]
 
 
 def processors() -> int:
@@ -160,71 +154,33 @@ def _groups(names: Iterable[str]) -> Iterator[Group]:
         yield from ([name] for name in group if name == STANDARD)
 
 
-def _end_with_parent() -> None:
-    """Ends this process when its parent has ended for any reason, even during a call of the library,
-    which lets other threads run."""
-    from multiprocessing import connection, parent_process
-
-    def wait(place: int) -> None:
-        connection.wait([place])
-        os._exit(1)
-
-    parent = parent_process()
-    if parent is not None:
-        threading.Thread(target=wait, args=(parent.sentinel,), daemon=True).start()
+def _is_standard(group: Group) -> bool:
+    """Returns whether a group is standard input, which only this process has."""
+    return group == [STANDARD]
 
 
-def _submitted(pool: "ProcessPoolExecutor", lg_max_k: int, group: Group) -> "Future[Part]":
-    """Submits a task. Processes that this starts ignore interrupts, which the parent handles."""
-    with held_back(signal.SIGINT):
-        return pool.submit(union_of_group, lg_max_k, group)
-
-
-def _over_processes(lg_max_k: int, groups: Iterable[Group], jobs: int) -> Parts:
-    """Yields the results of tasks in ``jobs`` processes, in the order of their groups. Only a few tasks are
-    submitted at a time."""
-    from concurrent.futures import ProcessPoolExecutor
-    from concurrent.futures.process import BrokenProcessPool
-    from multiprocessing import get_context
-
-    # with fork the queues have no names in the system, which a killed process would not remove
-    context = get_context("fork" if sys.platform == "linux" else None)
-    pool = ProcessPoolExecutor(jobs, mp_context=context, initializer=_end_with_parent)
-    waiting: Deque[Future[Part]] = deque()
-    try:
-        for group in groups:
-            if group == [STANDARD]:
-                yield union_of_group(lg_max_k, group)
-                continue
-            waiting.append(_submitted(pool, lg_max_k, group))
-            if len(waiting) > 2 * jobs:
-                yield waiting.popleft().result()
-        while waiting:
-            yield waiting.popleft().result()
-    except BrokenProcessPool:
-        raise Trouble("merge", "a process ended before its work was done") from None
-    finally:
-        for future in waiting:
-            future.cancel()
-        pool.shutdown()
-
-
-def _parts(lg_max_k: int, names: Iterable[str], jobs: int) -> Parts:
-    """Yields the results of the tasks. Starts processes only if there is more than one task."""
+def _parts(
+    lg_max_k: int, names: Iterable[str], jobs: int, note: Callable[[str], None]
+) -> Parts:
+    """Yields the results of the tasks, in the order of their groups. Starts processes only if there is
+    more than one task."""
     groups = _groups(names)
     first = list(islice(groups, 2))
+    tasks, call = chain(first, groups), partial(union_of_group, lg_max_k)
     if jobs == 1 or len(first) < 2:
-        for group in first:
-            yield union_of_group(lg_max_k, group)
-        for group in groups:
-            yield union_of_group(lg_max_k, group)
+        yield from map(call, tasks)
         return
-
-    def all_groups() -> Iterator[Group]:
-        yield from first
-        yield from groups
-
-    yield from _over_processes(lg_max_k, all_groups(), jobs)
+    with Workers(call, jobs) as workers:
+        if workers.failure is not None:
+            used = len(workers) or 1
+            note(f"merge: only {used} of {jobs} processes can be used: {workers.failure.strerror}")
+        if not len(workers):
+            yield from map(call, tasks)
+            return
+        try:
+            yield from workers.results(tasks, _is_standard)
+        except WorkerLost:
+            raise Trouble("merge", "a process ended before its work was done") from None
 
 
 def union_of_files(
@@ -234,6 +190,7 @@ def union_of_files(
     jobs: int,
     refuse: Callable[[Trouble], None],
     more: Optional[Callable[[int], None]] = None,
+    note: Callable[[str], None] = warnings.warn,
 ) -> Merged:
     """Returns the union of files.
 
@@ -252,6 +209,8 @@ def union_of_files(
         Called with the error of each file that is left out.
     more : callable, optional
         Called with the number of files of each finished task.
+    note : callable
+        Called with what is said if fewer processes are used, as not all could be started.
 
     Raises
     ------
@@ -259,17 +218,18 @@ def union_of_files(
         If a file has another ``lg_k`` than files before it, and there is no bound.
     """
     state, count, first = State(lg_max_k), 0, None
-    for part in _parts(lg_max_k, names, jobs):
-        for trouble in part.troubles:
-            refuse(trouble)
-        if part.merged:
-            try:
-                state.join(part.image)
-            except PrecisionError as error:
-                raise OtherLgK(part.first or "a file", error, first) from None
-            count, first = count + part.merged, first or part.first
-        if more is not None:
-            more(part.merged + len(part.troubles))
+    with closing(_parts(lg_max_k, names, jobs, note)) as parts:
+        for part in parts:
+            for trouble in part.troubles:
+                refuse(trouble)
+            if part.merged:
+                try:
+                    state.join(part.image)
+                except PrecisionError as error:
+                    raise OtherLgK(part.first or "a file", error, first) from None
+                count, first = count + part.merged, first or part.first
+            if more is not None:
+                more(part.merged + len(part.troubles))
     return Merged(state.image(width), count)
 
 

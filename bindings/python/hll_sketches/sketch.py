@@ -68,8 +68,9 @@ def _view_of(source: Buffer) -> memoryview:
 
 
 def data_in(source: Buffer) -> bytes:
-    """Returns the bytes of an object that shares its bytes."""
-    return source if isinstance(source, bytes) else _view_of(source).tobytes()
+    """Returns the bytes of an object that shares its bytes. A class that derives from ``bytes`` may have
+    another length than its bytes, so it is copied like all others."""
+    return source if type(source) is bytes else _view_of(source).tobytes()
 
 
 def image_in(source: Union["Sketch", Buffer]) -> bytes:

@@ -21,6 +21,22 @@ def environment(**more):
     return dict(os.environ, PYTHONPATH=path, PYTHONDONTWRITEBYTECODE="1", **more)
 
 
+OTHER_USER = 61234
+"""The user as whom a test runs the command, to be another one than its own, where root runs the tests."""
+
+
+def other_user():
+    """The words before a command that another user runs, or None if this can't be: only root can let
+    another user run a command, and Python has to be where all can read it."""
+    if os.geteuid() != 0 or shutil.which("setpriv") is None:
+        return None
+    number = str(OTHER_USER)
+    words = ["setpriv", f"--reuid={number}", f"--regid={number}", "--clear-groups",
+             "--bounding-set=-all"]
+    done = subprocess.run([*words, *COMMAND, "--version"], env=environment(), capture_output=True)
+    return words if done.returncode == 0 else None
+
+
 def interruptible():
     """Lets a process that is about to start be interrupted, also where this one is not."""
     signal.signal(signal.SIGINT, signal.SIG_DFL)
@@ -33,10 +49,11 @@ class CommandTest(unittest.TestCase):
         self.folder = pathlib.Path(tempfile.mkdtemp(prefix="hll-"))
         self.addCleanup(shutil.rmtree, self.folder)
 
-    def run_hll(self, *words, given=b"", **more):
-        """The status, and what is written to standard output and standard error."""
+    def run_hll(self, *words, given=b"", before=(), **more):
+        """The status, and what is written to standard output and standard error. ``before`` has the
+        words of another command, which runs this one."""
         done = subprocess.run(
-            [*COMMAND, *map(str, words)], input=given, capture_output=True, cwd=self.folder,
+            [*before, *COMMAND, *map(str, words)], input=given, capture_output=True, cwd=self.folder,
             env=environment(), timeout=60, **more,
         )
         return done.returncode, done.stdout, done.stderr.decode("utf-8", "surrogateescape")

@@ -557,6 +557,45 @@ class AccessorsTest(unittest.TestCase):
                 self.assertTrue(is_image(shown))
                 self.assertEqual(union_of([shown]), Sketch())
 
+    def test_bytes_that_are_longer_than_they_are(self):
+        """A derived type is read by its memory, whatever it says of its length."""
+        class Longer(bytes):
+            def __len__(self):
+                return 1 << 40
+
+            def __bytes__(self):
+                return self
+
+        class LongerArray(bytearray):
+            def __len__(self):
+                return 1 << 40
+
+        counted = Sketch()
+        counted.update_many(range(100))
+        image = counted.to_bytes()
+        header = Sketch.from_bytes(image).fold(4).to_bytes()[:40]
+        announced = header[:3] + bytes([21]) + header[4:]       # of two megabytes, which aren't there
+        for kind in (Longer, LongerArray):
+            self.assertEqual(fault_of(kind(announced)), "truncated")
+            self.assertEqual(Sketch.from_bytes(kind(image)).to_bytes(), image)
+            self.assertEqual(union_of([kind(image)]).to_bytes(), image)
+            union = SketchUnion()
+            union.update(kind(image))
+            union.update_many([kind(image)])
+            self.assertEqual(union.to_bytes(), image)
+            self.assertRaises(ImageError, Sketch.from_bytes, kind(announced))
+            self.assertRaises(ImageError, union_of, [kind(announced)])
+            registers = Registers()
+            registers.merge(kind(image))
+            self.assertEqual(registers.to_sketch().histogram(), counted.histogram())
+            self.assertEqual(coupon(kind(b"abc")), coupon(b"abc"))
+            self.assertEqual(list(coupons([kind(b"abc"), kind(b"")])), [coupon(b"abc"), coupon(b"")])
+            one, two = Sketch(), Sketch()
+            one.update(kind(b"abc"))
+            one.update_bytes(kind(b"abc"), [1, 3])
+            two.update_many([b"abc", b"a", b"bc"])
+            self.assertEqual(one, two)
+
     def test_one_image_is_not_many(self):
         for one in (EMPTY, bytearray(EMPTY), memoryview(EMPTY), Sketch()):
             for call in (union_of, SketchUnion().update_many):

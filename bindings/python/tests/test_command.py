@@ -20,7 +20,7 @@ from unittest import mock
 
 import common  # noqa: F401, for the path
 from command import COMMAND, CommandTest, TRUNCATED, environment, interruptible
-from hll_sketches import Sketch, __version__, _library, adding, cli, fault_of, files, layout
+from hll_sketches import Sketch, __version__, _library, adding, cli, commands, fault_of, files, layout
 from hll_sketches._errors import explained
 from hll_sketches._names import shown
 from mutants import KINDS, Mutants
@@ -252,6 +252,69 @@ class AddTest(CommandTest):
         wanted = sketch_of([b"%d" % number for number in range(800)] + [b"not kept waiting"], 14)
         self.assertEqual(self.read("a.hll"), wanted.to_bytes())
         self.assertEqual(self.listed(), ["a.hll"])
+
+    def test_a_lock_that_is_held(self):
+        """It is waited for, for ten seconds or for as long as it is held; that is said, and nothing is lost."""
+        self.assertEqual(files.PATIENCE, 10)
+        self.succeeds("new", "a.hll")
+        before, name = self.read("a.hll"), str(self.folder / "a.hll")
+        waits = "another process has held its lock for 0 seconds"
+        with open(name) as held, mock.patch.object(files, "PATIENCE", 0.1):
+            for kind in (fcntl.LOCK_SH, fcntl.LOCK_EX):
+                fcntl.flock(held, kind)
+                with self.assertRaises(files.Trouble) as caught, files.locked(name):
+                    self.fail("it is locked")
+                self.assertEqual((caught.exception.words, caught.exception.status), (
+                    f"{waits}: nothing was added (--wait waits for as long as it takes)", 2))
+            said = []
+
+            def tell(words):
+                said.append(words)
+                fcntl.flock(held, fcntl.LOCK_UN)
+
+            with files.locked(name, tell):
+                self.assertEqual(said, [f"{name}: waits for its lock, as {waits}"])
+        for words, wanted in ((["--wait"], True), ([], False)):
+            none = adding.Lines(Sketch().to_bytes())
+            with mock.patch.object(commands, "locked") as locked, \
+                    mock.patch.object(commands, "_lines_of_input", return_value=none):
+                self.assertEqual(cli._run(["add", name, *words]), 0)
+            self.assertEqual(locked.call_args.args, (name, commands.say if wanted else None))
+        self.assertEqual(self.read("a.hll"), before)
+
+    def test_an_add_that_is_kept_waiting(self):
+        """By a process that only may read the file: nothing is written, and the file is named."""
+        self.succeeds("new", "a.hll")
+        before = self.read("a.hll")
+        with open(self.folder / "a.hll") as held:
+            fcntl.flock(held, fcntl.LOCK_SH)
+            words = "a.hll: another process has held its lock for 10 seconds: nothing was added " \
+                "(--wait waits for as long as it takes)"
+            self.fails(2, [words], "add", "a.hll", given=b"x\n")
+        self.assertEqual(self.read("a.hll"), before)
+        self.succeeds("add", "a.hll", given=b"x\n")
+        self.assertEqual(self.read("a.hll"), image_of(["x"]))
+
+    def test_lines_that_are_too_long(self):
+        """They are named, and nothing is written; a line of that length is a line."""
+        self.succeeds("new", "a.hll")
+        before = self.read("a.hll")
+        for given, longest, number in (
+            (b"a\nbb\nccc\ndd\n", 2, "3"), (b"ccc", 2, "1"), (b"\na", 0, "2"),
+            (b"a\n" * 600_000 + b"b" * 3_000_000, 2_999_999, "600,001"),
+            (b"a\n" * 600_000 + b"b" * 3_000_000 + b"\n", 2_999_999, "600,001"),
+        ):
+            words = f"standard input: line {number} is longer than {longest:,} bytes " \
+                "(--longest-line changes this)"
+            self.fails(1, [words], "add", "a.hll", "--longest-line", longest, given=given)
+            self.assertEqual(self.read("a.hll"), before)
+            self.succeeds("add", "a.hll", "-o", "b.hll", "--longest-line", longest + (3 if longest < 9 else 1), given=given)
+        with open("/dev/zero", "rb") as endless:
+            done = subprocess.run([*COMMAND, "add", "a.hll"], stdin=endless, cwd=self.folder,
+                                  env=environment(), capture_output=True, timeout=60)
+        words = b"hll: standard input: line 1 is longer than 67,108,864 bytes (--longest-line changes this)\n"
+        self.assertEqual((done.returncode, done.stdout, done.stderr), (1, b"", words))
+        self.assertEqual(self.read("a.hll"), before)
 
     def test_the_lock_is_that_of_the_file_with_the_name(self):
         """Who waited for a file that was replaced locks the new one."""
@@ -656,6 +719,88 @@ class OutputsTest(CommandTest):
         os.chown(path, 65534, 65534)
         sketch.write(path)
         self.assertEqual((path.stat().st_uid, path.stat().st_gid), (65534, 65534))
+
+    def test_bits_that_a_write_clears(self):
+        """A file that is replaced does not run as its owner or its group afterwards."""
+        for mode in (0o4755, 0o2755, 0o6755):
+            path = self.write("a.hll", image_of(range(3)))
+            os.chmod(path, mode)
+            self.succeeds("add", "a.hll", given=b"x\n")
+            self.assertEqual(stat.S_IMODE(path.stat().st_mode), 0o755)
+
+    def test_links_are_followed(self):
+        """To the end, from folder to folder; what is a link stays one."""
+        self.write("b.hll", image_of(range(9)))
+        (self.folder / "sub").mkdir()
+        for name, to in {"one": "sub/two", "sub/two": "../three", "three": "sub/file", "back": "."}.items():
+            (self.folder / name).symlink_to(to)
+        for name, end in (("one", "sub/file"), ("back/back/one", "sub/file"), ("back/c", "c")):
+            self.succeeds("merge", "b.hll", "-o", name, "--width", 4)
+            self.assertEqual(self.read(end), image_of(range(9), width=4))
+            (self.folder / end).unlink()
+        self.assertTrue(all((self.folder / name).is_symlink() for name in ("one", "sub/two", "three")))
+        (self.folder / "x").symlink_to("y")
+        (self.folder / "y").symlink_to("x")
+        self.fails(2, ["x: Too many levels of symbolic links"], "merge", "b.hll", "-o", "x")
+
+    def test_links_of_other_users(self):
+        """One in a folder for all users is not followed, as where ``fs.protected_symlinks`` is set; one
+        of one's own, or of the folder's owner, is."""
+        if os.geteuid() != 0:
+            self.skipTest("only root can make a link that belongs to another user")
+        shared, target = self.folder / "shared", self.folder / "mine"
+        shared.mkdir()
+        link, image = shared / "out.hll", image_of(range(9))
+        self.write("b.hll", image)
+        words = "Permission denied (another user made this symbolic link in a folder for all users)"
+        commands_ = [*(command for command in self.COMMANDS if command[0] != "add"), ["new", "a.hll"],
+                     ["add", "b.hll", "-o", "a.hll"]]
+        for mode, owner, of_folder, is_followed in (
+            (0o1777, 61234, 0, False), (0o1777, 61234, 61235, False), (0o1777, 61234, 61234, True),
+            (0o1777, 0, 61235, True), (0o777, 61234, 0, True), (0o1775, 61234, 0, True),
+        ):
+            os.chown(shared, of_folder, 0)
+            os.chmod(shared, mode)
+            for path, end in ((link, target), (self.folder / "first", target)):
+                if path != link:
+                    path.symlink_to("shared/out.hll")
+                link.symlink_to(target)
+                os.lchown(link, owner, owner)
+                for command in commands_:
+                    target.write_bytes(b"precious")
+                    named = [str(path) if word == "a.hll" else word for word in command] + ["--force"]
+                    found = self.run_hll(*named)
+                    if is_followed:
+                        self.assertEqual(found, (0, b"", ""), named)
+                        self.assertNotEqual(target.read_bytes(), b"precious")
+                    else:
+                        self.assertEqual(found, (2, b"", f"hll: {path}: {words}\n"), named)
+                        self.assertEqual(target.read_bytes(), b"precious")
+                if not is_followed:
+                    with self.assertRaises(PermissionError) as caught:
+                        Sketch().write(path)
+                    self.assertEqual(caught.exception.filename, str(path))
+                link.unlink()
+                path.unlink(missing_ok=True)
+
+    def test_a_read_only_file_system(self):
+        self.write("b.hll", image_of(range(9)))
+        status = mock.Mock(f_flag=os.ST_RDONLY)
+        with mock.patch.object(os, "access", return_value=False), \
+                mock.patch.object(os, "statvfs", return_value=status):
+            for name, words in (("a.hll", "Read-only file system"), ("none/a.hll", "No such file or directory")):
+                with self.assertRaises(files.Trouble) as caught:
+                    files.check_output(str(self.folder / name))
+                self.assertEqual((caught.exception.words, caught.exception.status), (words, 2))
+            status.f_flag = 0
+            with self.assertRaises(files.Trouble) as caught:
+                files.check_output(str(self.folder / "a.hll"))
+            self.assertEqual(caught.exception.words, "Permission denied")
+        made = "mount -t tmpfs -o ro tmpfs . && cd . "
+        words = ["unshare", "-m", "sh", "-c", f'cd "$0" && {made} && cd "$0" && exec "$@"', str(self.folder)]
+        if os.geteuid() == 0 and subprocess.run([*words, "true"], capture_output=True).returncode == 0:
+            done = subprocess.run([*words, *COMMAND, "new", "a.hll"], env=environment(), capture_output=True)
+            self.assertEqual((done.returncode, done.stderr), (2, b"hll: a.hll: Read-only file system\n"))
 
     def test_errors_name_the_file(self):
         """The one that was given, and no other."""

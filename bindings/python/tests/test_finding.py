@@ -10,7 +10,7 @@ import unittest
 from unittest import mock
 
 import common  # noqa: F401, for the path
-from command import COMMAND, CommandTest, TRUNCATED, environment
+from command import COMMAND, CommandTest, TRUNCATED, environment, other_user
 from hll_sketches import ImageError, Sketch, files, finding, merge_files
 from hll_sketches._names import shown
 
@@ -62,10 +62,10 @@ class FoldersTest(CommandTest):
             self.write(name, IMAGE)
         entries, names = finding._entries, []
 
-        def refused(folder):
-            if folder.endswith("b"):
+        def refused(place):
+            if os.readlink(f"/proc/self/fd/{place}").endswith("b"):
                 raise PermissionError(13, "Permission denied")
-            return entries(folder)
+            return entries(place)
 
         with mock.patch.object(finding, "_entries", refused):
             found = list(finding.found([str(self.folder / "all")], names.append, self.fail))
@@ -75,24 +75,19 @@ class FoldersTest(CommandTest):
             made = merge_files([self.folder / "all"], on_refused=lambda *_: None)
         self.assertEqual(made.to_bytes(), IMAGE)
 
-    @unittest.skipUnless(
-        os.geteuid() == 0 and shutil.which("setpriv"), "root and setpriv are not here"
-    )
     def test_a_folder_without_permission(self):
+        before = other_user()
+        if before is None:
+            self.skipTest("another user can't run Python here")
         for name in ("all/a", "all/b/c", "all/d"):
             self.write(name, IMAGE)
         os.chmod(self.folder, 0o777)
         os.chmod(self.folder / "all" / "b", 0o700)
         os.chmod(self.folder / "all" / "d", 0o600)
-        command = ["setpriv", "--reuid=65534", "--clear-groups", "--bounding-set=-all", *COMMAND]
-        ran = subprocess.run([*command, "--version"], env=environment(), capture_output=True)
-        if ran.returncode:
-            self.skipTest("another user can't run Python here")
 
         def told(*words):
-            done = subprocess.run([*command, *words], cwd=self.folder, env=environment(),
-                                  capture_output=True)
-            return done.returncode, done.stderr.decode()
+            status, _, err = self.run_hll(*words, before=before)
+            return status, err
 
         lines = ["hll: all/b: Permission denied", "hll: all/d: Permission denied"]
         err = "".join(f"{line}\n" for line in lines)
@@ -135,6 +130,102 @@ class FoldersTest(CommandTest):
             self.assertEqual(self.read("one.hll"), wanted)
             subprocess.run(["rm", "-rf", names[0]], cwd=self.folder, check=True)
 
+    def test_each_folder_is_opened_from_the_one_above(self):
+        """Also with others next to it at each level: so the time is in proportion to the depth, and few
+        files are open."""
+        def lengths(depth):
+            """The bytes of the paths that a walk opens, and the most files that are open meanwhile."""
+            opening, taken, most = os.open, [], []
+
+            def counted(path, *more, **named):
+                taken.append(len(path))
+                most.append(len(os.listdir("/proc/self/fd")))
+                return opening(path, *more, **named)
+
+            with mock.patch.object(os, "open", counted):
+                found = list(finding.found([str(self.folder / "all")], self.fail, self.fail))
+            self.assertEqual(len(found), depth)
+            self.assertEqual(found, sorted(found, key=lambda path: path.split("/")))
+            return sum(taken), max(most) - min(most)
+
+        (self.folder / "all").mkdir()
+        place, made, found = os.open(self.folder / "all", os.O_RDONLY), 0, {}
+        for depth in (100, 200, 400, 800):
+            while made < depth:
+                for name in ("a", "down", "z"):
+                    os.mkdir(name, dir_fd=place)
+                file = os.open("z/file", os.O_WRONLY | os.O_CREAT, dir_fd=place)
+                os.close(file)
+                below = os.open("down", os.O_RDONLY, dir_fd=place)
+                os.close(place)
+                place, made = below, made + 1
+            found[depth] = lengths(depth)
+        os.close(place)
+        subprocess.run(["rm", "-rf", "all"], cwd=self.folder, check=True)
+        base = len(str(self.folder / "all"))
+        self.assertLess(found[800][0] - base, 9 * (found[100][0] - base))
+        self.assertLess(max(most for _, most in found.values()), 4)
+
+    def test_folders_that_are_moved_meanwhile(self):
+        """A walk goes on where it was, and leaves no file open."""
+        for name in ("all/a/b/c/1", "all/a/b/2", "all/a/d/3", "all/e/4"):
+            self.write(name, IMAGE)
+        before = len(os.listdir("/proc/self/fd"))
+        names, found = [], []
+        for path in finding.found([str(self.folder / "all")], names.append, self.fail):
+            found.append(os.path.basename(path))
+            if found == ["2"]:
+                (self.folder / "all/a/b").rename(self.folder / "elsewhere")
+        self.assertEqual((found, names), (["2", "1", "3", "4"], []))
+        self.assertEqual(len(os.listdir("/proc/self/fd")), before)
+
+    def test_what_takes_the_place_of_a_file(self):
+        """A FIFO or a link that somebody puts there after its folder was read is an error of that file."""
+        words = "No plain file any more, as it was when its folder was read"
+        for number, swap in enumerate((os.mkfifo, lambda path: os.symlink("/dev/zero", path))):
+            folder = f"all{number}"
+            for name in ("a", "b", "c"):
+                self.write(f"{folder}/{name}", IMAGE)
+            entries, refused = finding._entries, []
+
+            def swapped(place):
+                told, path = entries(place), self.folder / folder / "b"
+                path.unlink()
+                swap(path)
+                return told
+
+            with mock.patch.object(finding, "_entries", swapped):
+                made = merge_files([self.folder / folder], on_refused=lambda *what: refused.append(what))
+            self.assertEqual(refused, [(str(self.folder / folder / "b"), words)])
+            self.assertEqual(made.to_bytes(), IMAGE)
+
+    def test_a_folder_that_takes_the_place_of_another(self):
+        """A link that somebody puts in the place of a folder is not followed."""
+        self.write("theirs/x", IMAGE)
+        self.write("all/a/1", IMAGE)
+        self.write("all/b/2", IMAGE)
+        entries, refused = finding._entries, []
+
+        def swapped(place):
+            told = entries(place)
+            if ("b", "folder") in told:
+                os.rename(self.folder / "all/b", self.folder / "all/.b")
+                os.symlink("../theirs", self.folder / "all/b")
+            return told
+
+        with mock.patch.object(finding, "_entries", swapped):
+            found = list(finding.found([str(self.folder / "all")], refused.append, self.fail))
+        self.assertEqual(found, [str(self.folder / "all/a/1")])
+        self.assertEqual([trouble.name for trouble in refused], [str(self.folder / "all/b")])
+
+    def test_a_named_pipe_is_read(self):
+        os.mkfifo(self.folder / "pipe")
+        script = " ".join(COMMAND) + " merge pipe -o one.hll & cat a.hll > pipe; wait $!"
+        self.write("a.hll", IMAGE)
+        done = subprocess.run(["sh", "-c", script], cwd=self.folder, env=environment(), timeout=60,
+                              capture_output=True)
+        self.assertEqual((done.returncode, done.stderr, self.read("one.hll")), (0, b"", IMAGE))
+
     def test_steps_of_paths(self):
         for path in ("a", "/a", "a/b/", "/" + "a/" * 50, "a" * 40 + "//" + "b" * 40 + "//c"):
             with mock.patch.object(files, "STEP", 12):
@@ -171,6 +262,27 @@ class NamesTest(CommandTest):
         b"a b", b"a\nb", b"\x1b[31mred", b"tab\t", b"it's\n", b"back\\slash", b"back\\\n", b"\xff",
         "caf\u00e9".encode(), "\u202eabc".encode(), b"$'x'", b"$x", b"\r", b"\x7f", b"end\n\n",
     ]
+
+    def test_a_stream_that_lacks_characters(self):
+        """Names are quoted, and other text is escaped, where standard output is ASCII."""
+        name, missing = "caf\u00e9.hll", "n\u00e9ant"
+        self.write(name, IMAGE)
+        for own in ({"PYTHONIOENCODING": "ascii"}, {"PYTHONIOENCODING": "ascii:strict"},
+                    {"LC_ALL": "C", "PYTHONCOERCECLOCALE": "0", "PYTHONUTF8": "0"}):
+            def told(*words):
+                done = subprocess.run([*COMMAND, *words], cwd=self.folder, env=environment(**own),
+                                      capture_output=True)
+                return done.returncode, done.stdout, done.stderr
+
+            status, out, err = told("info", name)
+            self.assertEqual((status, out.split(b"\n")[0], err), (0, b"$'caf\\303\\251.hll':", b""))
+            self.assertEqual(told("estimate", name, name)[1], b"1\t$'caf\\303\\251.hll'\n" * 2)
+            self.assertEqual(told("info", missing), (
+                2, b"", b"hll: $'n\\303\\251ant': No such file or directory\n"))
+            self.assertEqual(told("info", "--json", name)[0], 0)
+            status, out, err = told("info", name, "--" + missing)
+            self.assertEqual((status, out), (2, b""))
+            self.assertRegex(err, rb"(n\\xe9ant|n\xc3\xa9ant)\n$")
 
     def test_a_line_is_a_name(self):
         seen = set()

@@ -4,6 +4,7 @@ import json
 import os
 import pathlib
 import random
+import resource
 import shutil
 import signal
 import subprocess
@@ -13,8 +14,8 @@ import unittest
 from unittest import mock
 
 import common
-from command import COMMAND, CommandTest, TRUNCATED, environment, interruptible
-from hll_sketches import Sketch, _library, files, merging, union_of
+from command import COMMAND, CommandTest, TRUNCATED, environment, interruptible, other_user
+from hll_sketches import Sketch, _library, _workers, files, merging, union_of
 from hll_sketches._errors import explained
 
 FILES = 300
@@ -144,6 +145,73 @@ class MergeTest(LaidOut):
             merging.union_of_files(names, 12, 8, 2, self.fail)
         words = "merge: a process ended before its work was done"
         self.assertEqual((str(caught.exception), caught.exception.status), (words, 1))
+
+    def test_limits_of_files_and_processes(self):
+        """Where not all processes can be started, fewer do the work, and that is said."""
+        self.write("list", "".join(f"{name}\n" for name in self.lay_out() * 4).encode())
+        os.chmod(self.folder, 0o777)
+        wanted = union_of(IMAGES, 12).to_bytes()
+        user = other_user() or []       # no limit of processes holds for root
+        words = ["merge", "--files-from", "list", "-o", "one.hll", "--lg-k", 12, "--jobs"]
+        for kind, limit, jobs, before in (
+            (resource.RLIMIT_NOFILE, 12, 2, []), (resource.RLIMIT_NOFILE, 16, 4, []),
+            (resource.RLIMIT_NOFILE, 16, 40, []), (resource.RLIMIT_NOFILE, 64, 40, []),
+            (resource.RLIMIT_NPROC, 1, 2, user), (resource.RLIMIT_NPROC, 3, 8, user),
+            (resource.RLIMIT_NPROC, 8, 8, user), (resource.RLIMIT_NPROC, 8, 40, user),
+        ):
+            if kind == resource.RLIMIT_NPROC and not before and os.geteuid() == 0:
+                self.skipTest("another user can't run Python here")
+
+            def limited():
+                resource.setrlimit(kind, (limit, limit))
+
+            with self.subTest(kind=kind, limit=limit, jobs=jobs):
+                found = self.run_hll(*words, jobs, before=before, preexec_fn=limited)
+                self.assertEqual(found[:2], (0, b""), found)
+                words_of = "Too many open files|Resource temporarily unavailable"
+                few = f"hll: merge: only [0-9]+ of {jobs} processes can be used: ({words_of})\n"
+                self.assertRegex(found[2], f"^{few}{bound_line()}$")
+                self.assertEqual(self.read("one.hll"), wanted)
+                os.remove(self.folder / "one.hll")
+
+    def test_limits_in_a_program(self):
+        """The same of ``merge_files``, which warns."""
+        names = [str(self.folder / name) for name in self.lay_out()] * 4
+        script = "\n".join((
+            "import resource, sys, warnings",
+            "from hll_sketches import merge_files",
+            "resource.setrlimit(resource.RLIMIT_NOFILE, (16, 16))",
+            "with warnings.catch_warnings(record=True) as told:",
+            "    warnings.simplefilter('always')",
+            "    made = merge_files(sys.stdin.read().split(), 12, jobs=20)",
+            "print(made.to_bytes().hex(), *[str(one.message) for one in told])",
+        ))
+        done = subprocess.run(
+            [sys.executable, "-c", script], input=" ".join(names), capture_output=True, text=True,
+            env=environment(), timeout=60,
+        )
+        words = "merge: only [0-9]+ of 20 processes can be used: Too many open files"
+        wanted = union_of(IMAGES, 12).to_bytes().hex()
+        self.assertRegex(done.stdout, f"^{wanted} {words}\n$", done.stderr)
+
+    def test_results_stay_in_order(self):
+        """Whichever process is done first, and with some tasks in this process."""
+        def slowly(number):
+            time.sleep(0.02 if number % 3 == 0 else 0)
+            if number == 77:
+                raise ValueError(number)
+            return number, os.getpid() == here
+
+        here = os.getpid()
+        with _workers.Workers(slowly, 3) as workers:
+            found = list(workers.results(range(50), lambda number: number % 7 == 0))
+        self.assertEqual(found, [(number, number % 7 == 0) for number in range(50)])
+        with _workers.Workers(slowly, 3) as workers:
+            results, found = workers.results(range(70, 90), lambda number: False), []
+            with self.assertRaises(ValueError) as caught:
+                for number, _ in results:
+                    found.append(number)
+        self.assertEqual((found, caught.exception.args), (list(range(70, 77)), (77,)))
 
     def test_lists_of_names(self):
         names = self.lay_out(IMAGES[:20])
