@@ -152,17 +152,23 @@ _CALLS = {
 _ANSWERS = {"hll_coupon": c_uint32, "hll_version": c_uint32}
 
 
+def _is_in_checkout(package: pathlib.Path) -> bool:
+    """Returns whether a package is that of a checkout, and not installed. Anybody might write into the
+    folder above the folder of an installation, so nothing is loaded from there."""
+    python, bindings = package.parent, package.parent.parent
+    is_so_named = (python.name, bindings.name) == ("python", "bindings")
+    return is_so_named and (python / "setup.py").is_file() and (bindings / "c" / "Makefile").is_file()
+
+
 def _places() -> List[str]:
     """Returns the places where the library may be, in the order in which they are tried."""
     named = os.environ.get("HLL_SKETCHES_LIBRARY")
     if named:
         return [named]
     package = pathlib.Path(__file__).resolve().parent
-    near = [
-        package.parent.parent / "c" / "build" / "libhll.so",
-        package / "libhll.so",
-        package / "libhll.so.0",
-    ]
+    near = [package / "libhll.so", package / "libhll.so.0"]
+    if _is_in_checkout(package):
+        near.insert(0, package.parent.parent / "c" / "build" / "libhll.so")
     found = [str(place) for place in near if place.exists()]
     if not found:
         from ctypes.util import find_library

@@ -280,6 +280,90 @@ class OtherLibrariesTest(CommandTest):
         self.assertEqual(told, "its estimation is laid out in another way")
 
 
+PLANTED = r"""
+#include <stdlib.h>
+__attribute__((constructor)) static void ran(void) { system("echo ran >> \"$PLANTED\""); }
+"""
+
+
+class PlantedTest(CommandTest):
+    """Files that somebody else put where the package or the command might look are not run."""
+
+    MODULES = ("json", "argparse", "ctypes", "typing", "tqdm", "sitecustomize", "usercustomize",
+               "hll_sketches/__init__", "hll_sketches/__main__")
+
+    def setUp(self):
+        super().setUp()
+        if shutil.which("cc") is None or not (BUILD / "libhll.so").exists():
+            self.skipTest("a C compiler, or bindings/c/build, is not here")
+        self.mark = self.folder / "mark"
+
+    def plant_library(self, place):
+        place.parent.mkdir(parents=True)
+        self.write("planted.c", PLANTED.encode())
+        subprocess.run(["cc", "-shared", "-fPIC", "-o", place, "planted.c"], cwd=self.folder, check=True)
+
+    def plant_modules(self, place):
+        (place / "hll_sketches").mkdir(parents=True)
+        line = f"open({str(self.mark)!r}, 'a').write(__name__)\n"
+        for name in self.MODULES:
+            (place / f"{name}.py").write_text(line)
+
+    def run_from(self, place, *words, **more):
+        done = subprocess.run(
+            words, cwd=place, capture_output=True, text=True,
+            env=plain_environment(PLANTED=str(self.mark), **more),
+        )
+        return done.returncode, done.stdout, done.stderr
+
+    def installed(self, name):
+        """The package in a folder, without its library."""
+        shutil.copytree(common.PACKAGE / "hll_sketches", self.folder / name / "hll_sketches",
+                        ignore=shutil.ignore_patterns("*.so*", "__pycache__"))
+        return self.folder / name
+
+    def test_a_library_above_an_installed_package(self):
+        """As after ``pip install --target``: in a folder of any name, with a library of its own or not."""
+        for number, name in enumerate(("deps", "python", "bindings/python")):
+            shared = self.folder / f"shared{number}"
+            place = self.installed(f"shared{number}/{name}")
+            self.plant_library(place.parent / "c" / "build" / "libhll.so")
+            for file in ("Makefile", "hll.h"):
+                (place.parent / "c" / file).write_text("")
+            words = [sys.executable, "-c", "import hll_sketches; print(hll_sketches.Sketch().lg_k)"]
+            _, _, err = self.run_from(shared, *words, PYTHONPATH=str(place))
+            self.assertFalse(self.mark.exists(), err)
+            shutil.copyfile(BUILD / "libhll.so", place / "hll_sketches" / "libhll.so")
+            found = self.run_from(shared, *words, PYTHONPATH=str(place))
+            self.assertEqual(found, (0, "12\n", ""))
+            self.assertFalse(self.mark.exists())
+
+    def test_a_planted_library_would_run(self):
+        """What the other tests plant is seen when it does run."""
+        self.plant_library(self.folder / "there" / "libhll.so")
+        words = [sys.executable, "-c", "import hll_sketches; hll_sketches.Sketch().lg_k"]
+        self.run_from(self.folder, *words, PYTHONPATH=str(common.PACKAGE),
+                      HLL_SKETCHES_LIBRARY=str(self.folder / "there" / "libhll.so"))
+        self.assertTrue(self.mark.exists())
+
+    def test_modules_of_the_current_folder(self):
+        """The command of a checkout runs none of them, also where PYTHONPATH has an empty part."""
+        place = self.folder / "theirs"
+        self.plant_modules(place)
+        self.plant_library(place / "c" / "build" / "libhll.so")
+        (place / "a.hll").write_bytes(bytes.fromhex("0201070a030801080500000c"))
+        words = ["sh", str(common.ROOT / "programs" / "hll.sh"), "estimate", "a.hll"]
+        link = self.folder / "bin"
+        link.mkdir()
+        (link / "hll").symlink_to(common.ROOT / "programs" / "hll.sh")
+        for more in ({}, {"PYTHONPATH": ""}, {"PYTHONPATH": ":"}, {"PYTHONPATH": "."}):
+            for command in (words, ["sh", str(link / "hll"), *words[2:]]):
+                self.assertEqual(self.run_from(place, *command, **more), (0, "1\n", ""))
+                self.assertFalse(self.mark.exists())
+        self.run_from(place, sys.executable, "-m", "hll_sketches")      # as the page of the package says
+        self.assertTrue(self.mark.exists())
+
+
 @unittest.skipIf(os.uname().machine != "x86_64", "this is no x86 processor")
 class ProcessorTest(CommandTest):
     def on(self, processor):
