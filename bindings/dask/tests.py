@@ -11,12 +11,15 @@ import subprocess
 import sys
 import tempfile
 import time
+from unittest import mock
 
 import dask.bag
 import dask.dataframe
+import fsspec
 import pandas
 from distributed import Client, LocalCluster
 
+import hll_sketches.dask
 from hll_sketches import ArgumentError, PrecisionError, Sketch, union_of
 from hll_sketches.dask import (
     LeftOut, PlacedImageError, sketch_aggregation, union_aggregation, union_by_key, union_of_bag, union_of_files)
@@ -167,6 +170,40 @@ def left_out(client, folder, images, paths):
         check("on_error", False)
     except ArgumentError as error:
         equal("on_error", str(error), "on_error is 'raise' or 'skip', not 'ignore'")
+
+
+def large_files(client, folder, images, paths):
+    """No more of a file is read than its header announces, and an allocation that fails is an error of its file."""
+    large, wanted = folder / "large.bin", union_by_program(images[:20])
+    large.write_bytes(images[7])
+    os.truncate(large, 1 << 40)     # with holes; all of it is more than any memory
+    files = paths[:7] + [str(large)] + paths[8:20]
+    opened_ones = fsspec.open_files([str(large)], "rb")
+    for name, some in (("a path", files), ("a URL", paths[:7] + ["file://%s" % large] + paths[8:20]),
+                       ("an open file", paths[:7] + opened_ones + paths[8:20])):
+        equal("a large file, %s" % name, image_by(files_at_12(some)), wanted)
+        found = files_at_12(some, on_error="skip").compute()
+        equal("a large file, %s, nothing skipped" % name, (found.union.to_bytes(), found.refused), (wanted, []))
+    endless = files_at_12(paths[:20] + ["/dev/zero"], on_error="skip").compute()
+    equal("an endless file", (endless.union.to_bytes(), endless.refused), (wanted, [("/dev/zero", "family")]))
+
+    def failing(path):
+        if path == str(large):
+            raise MemoryError
+        return pathlib.Path(path).read_bytes()
+
+    with mock.patch.object(hll_sketches.dask, "read_path", failing):
+        found = files_at_12(files, on_error="skip").compute(scheduler="synchronous")
+        equal("a failed allocation", (found.union.to_bytes(), found.refused),
+              (union_by_program(images[:7] + images[8:20]), [(str(large), "an allocation failed")]))
+        try:
+            files_at_12(files).compute(scheduler="synchronous")
+            check("a failed allocation is raised", False)
+        except MemoryError:
+            check("a failed allocation is raised", True)
+    with mock.patch.object(hll_sketches.dask, "fault_of", side_effect=MemoryError):
+        found = files_at_12(paths[:2], on_error="skip").compute(scheduler="synchronous")
+    equal("a failed allocation of the library", [reason for _, reason in found.refused], ["an allocation failed"] * 2)
 
 
 def aggregations(client, folder, images, paths):
@@ -383,7 +420,7 @@ def lost_worker(client, folder, images, paths):
 
 
 PARTS = [
-    files, refused_files, patterns, left_out, aggregations, arguments, precision, missing_values, several_aggregations, bags, keys,
+    files, refused_files, patterns, left_out, large_files, aggregations, arguments, precision, missing_values, several_aggregations, bags, keys,
     columns, lost_worker]
 
 

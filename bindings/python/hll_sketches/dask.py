@@ -37,6 +37,7 @@ import fsspec
 from dask.delayed import delayed
 
 from ._errors import ArgumentError, ImageError, PrecisionError
+from .files import read_image, read_path
 from .sketch import Sketch, checked_lg_k, checked_width, fault_of
 from .union import Source, checked_bounds, merged, union_of
 
@@ -60,6 +61,7 @@ Parts = Tuple[Dict[Hashable, bytes], Refused]
 """The image of each key, and what was left out."""
 
 LEAST_FILES, MOST_FILES, TASKS_PER_THREAD, SPLIT_EVERY = 64, 4096, 2, 8
+NO_MEMORY = "an allocation failed"
 
 
 class PlacedImageError(ImageError):
@@ -112,6 +114,16 @@ def _bounds(lg_max_k: Optional[int], width: Optional[int], on_error: str = "rais
     return _Bounds(*checked_bounds(lg_max_k, width), on_error == "skip")
 
 
+def _why_not(source: Either[Source, OSError]) -> Optional[str]:
+    """Returns why a source can't be merged, or None."""
+    if isinstance(source, OSError):
+        return source.strerror or str(source)
+    try:
+        return None if isinstance(source, Sketch) else fault_of(source)
+    except MemoryError:
+        return NO_MEMORY
+
+
 def _accepted(
     sources: Iterable[Either[Source, OSError]],
     place_of: Callable[[int], Tuple[int, str]],
@@ -121,10 +133,7 @@ def _accepted(
     """Yields the images, and appends their numbers to ``accepted``. Appends the places of the others, and
     why they are rejected, to ``refused``."""
     for number, source in enumerate(sources):
-        if isinstance(source, OSError):
-            reason: Optional[str] = source.strerror or str(source)
-        else:
-            reason = None if isinstance(source, Sketch) else fault_of(source)
+        reason = _why_not(source)
         if reason is not None:
             refused.append((place_of(number)[1], reason))
         else:
@@ -158,19 +167,23 @@ def _name_of(file: File) -> str:
 
 
 def _bytes_of_file(file: File, options: Dict[str, Any]) -> bytes:
+    """Returns the bytes of a file that an image can have: no more than its header announces."""
     if not isinstance(file, fsspec.core.OpenFile) and "://" not in os.fspath(file):
-        with open(file, "rb") as local:
-            return local.read()
+        return read_path(os.fspath(file))
     if not isinstance(file, fsspec.core.OpenFile):
         file = fsspec.open(os.fspath(file), "rb", **options)
     with file as remote:
-        return bytes(remote.read())
+        return read_image(lambda most: bytes(remote.read(most)))
 
 
 def _read(file: File, options: Dict[str, Any], skips: bool) -> Either[bytes, OSError]:
     """Returns the bytes of a file, or why it can't be read if it may be left out."""
     try:
         return _bytes_of_file(file, options)
+    except MemoryError:
+        if skips:
+            return OSError(errno.ENOMEM, NO_MEMORY)
+        raise
     except OSError as error:
         if skips:
             return error
