@@ -52,7 +52,7 @@ sort -z "$WORK/files" | xargs -0 -n "$files" -P "$(nproc)" sh -c '
         if [ "$line" -ge 1 ] 2>/dev/null && [ "$line" -le $# ]; then
             shift $((line - 1))
             [ -s "$1" ] || error="line $line: image truncated"
-            echo "$1: ${error#*: }" >&2
+            printf "%s\n" "$1: ${error#*: }" >&2
         else
             echo "$error" >&2
         fi
