@@ -10,17 +10,25 @@
 #include "catalog/pg_type.h"
 #include "nodes/execnodes.h"
 #include "nodes/nodeFuncs.h"
+#include "parser/parsetree.h"
 #include "utils/builtins.h"
 #include "utils/lsyscache.h"
 #include "utils/syscache.h"
 
-void
-refuse_type(Oid type)
+/* Raises an error for values of a type. `where` says where the cast is missing, and may be empty. */
+static void
+refuse_uncast(Oid type, const char *where)
 {
 	ereport(ERROR,
 			(errcode(ERRCODE_DATATYPE_MISMATCH),
 			 errmsg("values of type %s cannot be counted as they are", format_type_be(type)),
-			 errhint("Cast them to the type as which they are to count, for example CAST(value AS text).")));
+			 errhint("Cast them to the type as which they are to count, for example CAST(value AS text)%s.", where)));
+}
+
+void
+refuse_type(Oid type)
+{
+	refuse_uncast(type, "");
 }
 
 /* The step of an aggregate. */
@@ -38,18 +46,75 @@ step_of(Oid aggregate)
 	return step;
 }
 
-/* Raises an error for an expression of another type that became a text by an implicit cast: a citext. */
-static void
-check_expression(Node *value)
+/* Returns the node of a plan whose columns are named by this varno in its parent, or NULL. All inputs of an Append compute the
+ * same expressions. */
+static Plan *
+input_of(Plan *plan, int varno)
 {
-	RelabelType *cast = (RelabelType *) value;
+	if (varno == INNER_VAR)
+		return innerPlan(plan);
+	if (varno != OUTER_VAR)
+		return NULL;
+	if (IsA(plan, Append))
+		return linitial(((Append *) plan)->appendplans);
+	if (IsA(plan, MergeAppend))
+		return linitial(((MergeAppend *) plan)->mergeplans);
+	return outerPlan(plan);
+}
+
+/*
+ * Returns an expression of a plan as the query has it. If a node below has computed it, for example a Sort that has sorted the
+ * rows of an aggregate by it (since PostgreSQL 16), the expression has been replaced by a Var without a syntactic column.
+ * Where the plan doesn't show what the Var stands for, the Var is returned.
+ */
+static Node *
+computed_below(Plan *plan, Node *value)
+{
+	while (IsA(value, Var) && ((Var *) value)->varnosyn == 0)
+	{
+		Var		   *var = (Var *) value;
+		TargetEntry *column;
+
+		plan = input_of(plan, var->varno);
+		column = plan == NULL ? NULL : get_tle_by_resno(plan->targetlist, var->varattno);
+		if (column == NULL)
+			return value;
+		value = (Node *) column->expr;
+	}
+	return value;
+}
+
+/*
+ * Raises an error for an expression of another type that became a text by an implicit cast: a citext. The node is NULL if it
+ * isn't known. A node below computes an expression once for the whole query, so the cast may also be missing in another call.
+ */
+static void
+check_expression(PlanState *node, Node *value)
+{
+	Node	   *computed = node == NULL ? value : computed_below(node->plan, value);
+	RelabelType *cast = (RelabelType *) computed;
 	Oid			type;
 
-	if (!IsA(value, RelabelType) || cast->relabelformat != COERCE_IMPLICIT_CAST)
+	if (!IsA(computed, RelabelType) || cast->relabelformat != COERCE_IMPLICIT_CAST)
 		return;
 	type = getBaseType(exprType((Node *) cast->arg));
 	if (type != TEXTOID && type != VARCHAROID)
-		refuse_type(exprType((Node *) cast->arg));
+		refuse_uncast(exprType((Node *) cast->arg), computed == value ? "" : ", everywhere in the query");
+}
+
+/* Checks the values of each call that shares the steps of this one: PostgreSQL takes no notice of how a cast was written. */
+static void
+check_aggregates(AggState *aggregates, Aggref *aggregate)
+{
+	ListCell   *cell;
+
+	foreach(cell, aggregates->aggs)
+	{
+		Aggref	   *call = lfirst_node(Aggref, cell);
+
+		if (call->aggtransno == aggregate->aggtransno)
+			check_expression(&aggregates->ss.ps, (Node *) linitial_node(TargetEntry, call->args)->expr);
+	}
 }
 
 /* Checks the values of each call of this step over a window. */
@@ -63,7 +128,7 @@ check_windows(WindowAggState *windows, Oid step)
 		WindowFunc *call = ((WindowFuncExprState *) lfirst(cell))->wfunc;
 
 		if (call->winagg && step_of(call->winfnoid) == step)
-			check_expression(linitial(call->args));
+			check_expression(&windows->ss.ps, linitial(call->args));
 	}
 }
 
@@ -75,11 +140,11 @@ check_values(FunctionCallInfo fcinfo)
 	Node	   *call = fcinfo->flinfo->fn_expr;
 
 	if (aggregate != NULL)
-		check_expression((Node *) linitial_node(TargetEntry, aggregate->args)->expr);
+		check_aggregates((AggState *) fcinfo->context, aggregate);
 	else if (fcinfo->context != NULL && IsA(fcinfo->context, WindowAggState))
 		check_windows((WindowAggState *) fcinfo->context, fcinfo->flinfo->fn_oid);
 	else if (call != NULL && IsA(call, FuncExpr))
-		check_expression(lsecond(((FuncExpr *) call)->args));
+		check_expression(NULL, lsecond(((FuncExpr *) call)->args));
 }
 
 /* Raises an error, once per query, for texts that are compared by another rule than their bytes, which are what is counted. */

@@ -2,6 +2,7 @@
 """Values of each type, beside the bytes that docs/FORMAT.md says ("What values are hashed as") and its hash."""
 import datetime
 import random
+import re
 import struct
 import uuid
 
@@ -163,6 +164,84 @@ def refused_texts(server):
     for workers in (0, 3):
         said = server.run(settings(workers) + "SELECT hyperloglog_agg(name) FROM people;")
         refused("a citext at %d workers" % workers, said, DATATYPE, "values of type citext")
+    computed_below(server)
+
+
+# From PostgreSQL 16 on, the plan sorts rows for an aggregate. Then a node below the aggregate computes its values, and the
+# aggregate's own arguments don't show whether they were cast.
+NICKS = "coalesce(name, nick)"
+SORTED = ("DISTINCT %s", "DISTINCT %s, 9", "%s ORDER BY %s", "%s, 9, 4 ORDER BY %s DESC", "%s ORDER BY %s, plain")
+PARTS_OF_PEOPLE = """CREATE TABLE parts (LIKE people) PARTITION BY LIST (plain);
+    CREATE TABLE anns PARTITION OF parts FOR VALUES IN ('Ann', 'ann'); CREATE TABLE others PARTITION OF parts DEFAULT;
+    INSERT INTO parts SELECT * FROM people; CREATE INDEX ON parts ((coalesce(name, nick)::text)); CREATE INDEX ON people (plain);
+    ANALYZE people, parts"""
+INDEX = "SET enable_seqscan = off; SET enable_bitmapscan = off; "
+# A node of the plan, what makes PostgreSQL choose it, and what the rows are from.
+NODES = {"Sort": ("", "people"), "Incremental Sort": (INDEX, "people GROUP BY plain"), "Merge Append": (INDEX, "parts"), "Append": ("", "parts"),
+         "Subquery Scan": ("", "(SELECT * FROM people OFFSET 0) s"), "CTE Scan": ("", "(WITH c AS MATERIALIZED (TABLE people) TABLE c) s"),
+         "Merge Join": ("SET enable_hashjoin = off; SET enable_nestloop = off; ", "people JOIN (SELECT plain p FROM people) s ON p = plain"),
+         "Gather": (settings(2), "people"), "GroupAggregate": ("", "people GROUP BY ROLLUP (plain, short)")}
+
+
+def sorted_calls(value):
+    return ["hyperloglog_agg(%s)" % form.replace("%s", value) for form in SORTED]
+
+
+def computed_below(server):
+    """A value that isn't cast is rejected wherever the plan computes it, and counted where it is cast."""
+    server.ask(PARTS_OF_PEOPLE)
+    presorts = server.ask("SELECT count(*) FROM pg_settings WHERE name = 'enable_presorted_aggregate'") == "1"
+    hidden = 0
+    for node, (chosen, rows) in NODES.items():
+        for call in sorted_calls(NICKS):
+            name = "%s above %s" % (call, node)
+            refused(name, server.run("%sSELECT %s FROM %s;" % (chosen, call, rows)), DATATYPE, "values of type citext cannot be counted")
+            plan = server.run("%sEXPLAIN (VERBOSE, COSTS OFF) SELECT %s FROM %s;" % (chosen, call, rows))
+            hidden += re.search(r"(\(|DISTINCT )\(\(COALESCE", plan.split("\n")[1]) is not None
+            check("the plan of " + name, not presorts or node in plan or ", plain" in call, plan)
+        for call in sorted_calls(NICKS + "::text"):
+            said = server.run("%sSELECT %s FROM %s;" % (chosen, call, rows))
+            check("%s with a cast above %s" % (call, node), "ERROR" not in said, said)
+    check("values that the plan computes below", hidden >= 20 if presorts else hidden == 0, hidden)
+    texts_below(server)
+    both_casts(server, presorts)
+
+
+def texts_below(server):
+    """Texts are counted: those of a subquery too, which become texts there by an implicit cast."""
+    server.ask("CREATE VIEW names AS SELECT name AS t FROM people UNION ALL SELECT plain FROM people")
+    for value, rows, wanted in (("plain", "people", "3"), ("short", "people", "3"), ("coalesce(short, plain)", "parts", "3"), ("coalesce(short, short)", "people", "3"),
+                                ("plain || short", "people", "3"), ("lower(name)", "people", "2"), ("coalesce(name, plain)", "people", "3"),
+                                ("t", "names", "3"), ("coalesce(t, '')", "names", "3"), ("t", "(SELECT DISTINCT t FROM names) s", "3")):
+        for call in sorted_calls(value):
+            if "plain" not in call.split("ORDER BY")[-1] or rows in ("people", "parts"):
+                found = server.ask("%s SELECT round(# %s) FROM %s" % (INDEX, call, rows))
+                equal("%s from %s" % (call, rows), found, wanted)
+
+
+def both_casts(server, presorts):
+    """PostgreSQL takes an expression with an implicit cast and with an explicit one for the same. README.md says what follows."""
+    cast = NICKS + "::text"
+    for name in "hyperloglog_agg", "hll_image_add_agg":
+        for calls in ("hyperloglog_agg(%s), %s(%s)" % (cast, name, NICKS), "%s(%s), hyperloglog_agg(%s)" % (name, NICKS, cast)):
+            refused("both: " + calls, server.run("SELECT %s FROM people;" % calls), DATATYPE, "values of type citext")
+    calls = "string_agg(DISTINCT %s, ''), round(# hyperloglog_agg(DISTINCT %s))"
+    off = "SET enable_presorted_aggregate = off; " if presorts else ""
+    said = server.run(off + "SELECT %s FROM people;" % (calls % (NICKS, cast)))
+    equal("cast in this call", said, "AnnBobann|3")
+    refused("cast in another call", server.run(off + "SELECT %s FROM people;" % (calls % (cast, NICKS))), DATATYPE, "values of type citext")
+    equal("cast in both calls", server.run("SELECT %s FROM people;" % (calls % (cast, cast))), "AnnBobann|3")
+    if presorts:
+        said = server.run("SELECT %s FROM people;" % (calls % (NICKS, cast)))
+        refused("cast in this call, and sorted below", said, DATATYPE, "values of type citext")
+        check("where the cast is missing", "CAST(value AS text), everywhere in the query." in said, said)
+    server.ask("CREATE INDEX cast_nicks ON people (name, nick, (%s::text))" % NICKS)
+    server.ask("VACUUM people")
+    plan = server.run(INDEX + "EXPLAIN SELECT hyperloglog_agg(%s) FROM people;" % NICKS)
+    check("an index with a cast", "Index Only Scan using cast_nicks" in plan, plan)
+    for call in sorted_calls(NICKS) + ["hyperloglog_agg(%s)" % NICKS]:
+        said = server.run(INDEX + "SET enable_indexonlyscan = off; SELECT %s FROM people;" % call)
+        refused("beside an index with a cast: " + call, said, DATATYPE, "values of type citext")
 
 
 # ---- one value more

@@ -131,7 +131,7 @@ def other_sizes(server):
             groups.append(numbers.sample(images, len(images)))
     server.ask(TREES + "CREATE TABLE mixed (g int, n int, image bytea)")
     load(server, "mixed", [(g, n, image) for g, images in enumerate(groups) for n, image in enumerate(images)])
-    found = server.ask("""SELECT count(*), count(*) FILTER (WHERE fault ~ '^sketches of lg_k \d+ and \d+ can''t be merged without a bound$')
+    found = server.ask(r"""SELECT count(*), count(*) FILTER (WHERE fault ~ '^sketches of lg_k \d+ and \d+ can''t be merged without a bound$')
         FROM (SELECT fault_of_tree(array_agg(image ORDER BY n), g) fault FROM mixed GROUP BY g) x""")
     equal("trees of different lg_k", found, "200|200")
     server.ask("CREATE TABLE bounded_roots (g int, answer bytea)")
