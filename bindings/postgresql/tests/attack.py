@@ -264,8 +264,8 @@ def plant_later(server, database, own_schema, own):
 
 
 def taken(server):
-    """Where mallory has a function, a type or an aggregate of an extension's name and arguments, CREATE EXTENSION is refused,
-    and calls nothing of mallory's."""
+    """Where mallory has a function or a type of an extension's name and arguments, CREATE EXTENSION is refused, and calls nothing
+    of mallory's. He can make no function and no aggregate with an argument `internal`."""
     new_database(server, "listed")
     equal("installed", install(server, "listed", "public", "public"), "")
     own = sorted(signatures(server, "listed"))
@@ -276,18 +276,21 @@ def taken(server):
     for name, arguments in sorted(without_type(own)):
         if "internal" not in arguments and "cstring" not in arguments:
             try_taken(server, function("public." + name, arguments), "public", "42723")
-    for kind in ("DOMAIN public.hyperloglog AS bytea", "TABLE public.hyperloglog ()", "TYPE public.hyperloglog AS ENUM ()"):
-        try_taken(server, "CREATE %s;" % kind, "public", "42710")
+    for kind in OWN_KINDS:
+        for short in "public", "mallory":
+            try_taken(server, "CREATE %s;" % kind % "public.hyperloglog", short, "42710")
+        try_taken(server, "CREATE %s; CREATE %s;" % (kind % "public.hyperloglog", kind % "mallory.hyperloglog"), "mallory", "42710")
     for language, body in ("plpgsql", "BEGIN END"), ("sql", "SELECT 1"):
         said = as_mallory(server, "taken", ["CREATE FUNCTION mallory.f(internal) RETURNS int4 LANGUAGE %s AS '%s';" % (language, body)])
         check("no function of internal in " + language, len(said) == 1 and "type internal" in said[0], said)
     for name, arguments in sorted(without_type(own)):
         if "internal" in arguments and "_recv" not in name:
-            try_taken(server, aggregate("mallory." + name, arguments), "mallory", "42883")
+            said = as_mallory(server, "taken", ["BEGIN;", aggregate("mallory." + name, arguments), "ROLLBACK;"])
+            check("no aggregate %s(%s)" % (name, arguments), len(said) == 1 and "42883" in said[0], said)
 
 
 def aggregate(name, arguments):
-    """The only thing that a plain user can make with an argument `internal`."""
+    """An aggregate with an argument `internal`, whose step is polymorphic, as a plain user can't give a function such an argument."""
     step = ", ".join("anyelement" if kind == "internal" else kind for kind in arguments.split(", "))
     return "%s CREATE AGGREGATE %s(%s) (SFUNC = mallory.step, STYPE = int4);" % (
         function("mallory.step", "int4, " + step, "int4"), name, arguments)
@@ -304,15 +307,63 @@ def try_taken(server, statement, short, code):
     unheard(server, name, "taken", said)
 
 
+# ---- types of others
+
+# What mallory can make of a type's name.
+OWN_KINDS = ("DOMAIN %s AS bytea", "DOMAIN %s AS text", "DOMAIN %s AS int4", "TYPE %s AS ENUM ()", "TYPE %s AS (image bytea)", "TABLE %s ()",
+             "TYPE %s AS RANGE (SUBTYPE = int8)")
+ARGUMENT_TYPES = """SELECT DISTINCT p.proname, t.oid::regtype
+    FROM pg_extension e JOIN pg_depend d ON d.refclassid = 'pg_extension'::regclass AND d.refobjid = e.oid AND d.classid = 'pg_proc'::regclass
+        JOIN pg_proc p ON p.oid = d.objid JOIN pg_type t ON t.oid = ANY (p.proargtypes)
+    WHERE extname = 'hll_sketches_agg' AND typname = 'hyperloglog' ORDER BY 1"""
+KEPT = """CREATE VIEW safe.report AS SELECT public.hll_union_agg(image) AS image FROM (SELECT safe.hyperloglog_agg(7) AS image) s;
+    CREATE MATERIALIZED VIEW safe.kept AS TABLE safe.report;"""
+KEPT_VIEWS = "SELECT (SELECT count(*) FROM pg_extension WHERE extname ~ '^hll'), safe.hll_estimate(r.image) = 1, r.image = k.image FROM safe.report r, safe.kept k"
+FORGET = """SET client_min_messages = warning; DROP EXTENSION hll_sketches CASCADE; DROP TYPE IF EXISTS public.hyperloglog;
+    DROP TABLE IF EXISTS public.hyperloglog;"""
+
+
+def types_of_others(server):
+    """Where mallory has a type of the extension's name in the schema of hll_sketches_agg, its aggregates are of the extension's own
+    type all the same. No role but their owner can drop them, or what uses them."""
+    new_database(server, "typed")
+    for kind in OWN_KINDS:
+        for versions in ("",), (" VERSION '%s'" % EARLIER, "UPDATE"):
+            drop_as_mallory(server, "CREATE %s;" % kind % "public.hyperloglog", *versions)
+
+
+def drop_as_mallory(server, statement, version, *update):
+    """An extension that is made, or updated, after mallory's type; and what mallory can drop then."""
+    name = statement + " ".join(update)
+    said = install(server, "typed", "safe" + version, "public" + version) if update else ""
+    equal("planted: " + name, as_mallory(server, "typed", [statement]), [])
+    if update:
+        said += server.run("ALTER EXTENSION hll_sketches UPDATE; ALTER EXTENSION hll_sketches_agg UPDATE;", "typed")
+    else:
+        said += install(server, "typed", "safe", "public")
+    equal("made beside a type of another: " + name, said, "")
+    equal("types of the aggregates: " + name, server.ask(ARGUMENT_TYPES, "typed"), "hll_add_agg|safe.hyperloglog\nhll_union_agg|safe.hyperloglog")
+    server.ask(KEPT, "typed")
+    for dropped in "EXTENSION hll_sketches_agg", "EXTENSION hll_sketches", "VIEW safe.report", "TYPE safe.hyperloglog":
+        said = as_mallory(server, "typed", ["DROP %s CASCADE;" % dropped])
+        check("mallory can't drop %s: %s" % (dropped, name), len(said) == 1 and "42501" in said[0], said)
+    said = as_mallory(server, "typed", ["DROP %s public.hyperloglog CASCADE;" % ("TABLE" if "TABLE" in statement else "TYPE")])
+    equal("mallory drops his own: " + name, said, [])
+    equal("what is left: " + name, server.ask(KEPT_VIEWS, "typed"), "2|t|t")
+    server.ask(FORGET, "typed")
+
+
 # ---- names of the catalog
 
 # Each decoy of a function, an operator or a type keeps that it was called; a table has none of the columns. The one
-# extension that there is gets the name that a script looks for, so that it looks on.
+# extension that there is gets the name that a script looks for, so that it looks on. A row of pg_extension stands for
+# hll_sketches, whose schema the other script looks up.
 DECOYS = """
 SET allow_system_table_mods = on;
 UPDATE pg_extension SET extname = 'hll';
 CREATE SCHEMA decoys;
 CREATE SCHEMA own;
+INSERT INTO pg_extension SELECT 1, 'hll_sketches', extowner, 'own'::regnamespace, true, extversion, NULL, NULL FROM pg_extension;
 CREATE TABLE decoys.heard (what text);
 CREATE FUNCTION decoys.hear(what text) RETURNS bool LANGUAGE plpgsql SET search_path = pg_catalog AS $$
 BEGIN
