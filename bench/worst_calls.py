@@ -1,7 +1,7 @@
 #!/usr/bin/env python3
 # SPDX-License-Identifier: Apache-2.0
-"""Measures calls of C, Python and PostgreSQL over the images of bench/worst_cases.py that take longest, and unions of a set with
-many small lists.
+"""Measures calls of C, Python and PostgreSQL over the images of bench/worst_cases.py that take longest, how soon PostgreSQL ends
+calls of two such images, and unions of a set with many small lists.
 
 Prints the seconds of each call, over coupons or exceptions on one path and over random ones, for docs/NUMBERS.md. Each result
 is compared with that of the same call over the same image in the order in which it is written; that of many images with the
@@ -63,7 +63,15 @@ def calls_of_python(image, canonical):
 
 
 QUERIES = {"hll_fault": "hll_fault(image) IS NULL", "hll_estimate": "hll_estimate(image)",
-           "hll_fold to lg_k 4": "md5(hll_fold(image, 4))", "hll_image_union_agg": "md5(hll_image_union_agg(image, 12, 8))"}
+           "hll_fold to lg_k 4": "md5(hll_fold(image, 4))", "hll_image_union_agg": "md5(hll_image_union_agg(image, 12, 8))",
+           "hll_merge with itself": "hll_estimate(hll_merge(image, image))", "hll_agree with itself": "hll_agree(image, image)"}
+STOPPED = "SET statement_timeout = 50; SELECT %s FROM images WHERE name = 'given'; RESET statement_timeout;"
+ADDED = "SELECT hll_estimate(hll_add(image, 1)) FROM images WHERE name = '%s';"
+
+
+def stops(answer, wanted):
+    """Whether a query was ended by its timeout. A quick one may end before."""
+    return "57014" in answer or answer == wanted
 
 
 def calls_of_postgresql(server, session, image, canonical):
@@ -78,6 +86,10 @@ def calls_of_postgresql(server, session, image, canonical):
         if "ERROR" in wanted:
             raise SystemExit(wanted)
         yield "PostgreSQL, " + call, lambda query=query: session.ask(query % "given"), wanted
+        if "itself" in call:
+            yield "PostgreSQL, %s, with a timeout of 50 ms" % call, \
+                lambda expression=expression, wanted=wanted: stops(session.ask(STOPPED % expression), wanted), True
+    yield "PostgreSQL, hll_add to what hll_convert writes", lambda: session.ask(ADDED % "canonical"), session.ask(ADDED % "given")
 
 
 # ---- many images in one union

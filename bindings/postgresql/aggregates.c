@@ -245,7 +245,10 @@ hll_pg_deserial(PG_FUNCTION_ARGS)
 	if (sent.is_state)
 		group->state = copied_state(CurrentMemoryContext, sketch, size);
 	else if (size > 0)
+	{
+		CHECK_FOR_INTERRUPTS();
 		check_status(join_image(state_of(group), group->lg_k, sketch, size));
+	}
 	PG_RETURN_POINTER(group);
 }
 

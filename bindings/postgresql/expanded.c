@@ -108,6 +108,7 @@ value_of_image(MemoryContext parent, bytea *image)
 	if (hll_image_stage(IMAGE(image)) != HLL_REGISTERS)
 		return PointerGetDatum(image);
 	state = new_state(CurrentMemoryContext, 0);
+	CHECK_FOR_INTERRUPTS();
 	check_status(join_image(&state, 0, IMAGE(image)));
 	return value_of_state(parent, &state);
 }
@@ -202,14 +203,14 @@ merged_state(uint8 lg_max_k, Side left, Side right)
 	return state;
 }
 
-/* Returns whether both sides are lists or sets of one lg_k and width, which are also those of their union, and there is no
- * bound or that lg_k is the bound. */
+/* Returns whether both sides are lists or sets of one lg_k and width, which are also those of their union, there is no bound or
+ * that lg_k is the bound, and one call may read both. */
 static bool
 are_alike(uint8 lg_max_k, Side left, Side right)
 {
 	uint8		lg_k;
 
-	if (left.image == NULL || right.image == NULL)
+	if (left.image == NULL || right.image == NULL || LENGTH(left.image) >= SLOW_IMAGE || LENGTH(right.image) >= SLOW_IMAGE)
 		return false;
 	lg_k = named_lg_k(IMAGE(left.image));
 	return (lg_max_k == 0 || lg_max_k == lg_k) && lg_k == named_lg_k(IMAGE(right.image)) &&

@@ -6,6 +6,7 @@
 
 #include "access/htup_details.h"
 #include "funcapi.h"
+#include "miscadmin.h"
 #include "utils/builtins.h"
 
 PG_MODULE_MAGIC;
@@ -110,13 +111,30 @@ hll_pg_set_estimator_fields(PG_FUNCTION_ARGS)
 	PG_RETURN_BYTEA_P(end_output(&out));
 }
 
+/* Returns the image that is an argument, counted from 0. If it may be slow to read, returns one with the same registers that
+ * isn't: images of 6-bit and 8-bit registers are quick to read, and so are coupons that the library has sorted. */
+static bytea *
+quick_image_in(FunctionCallInfo fcinfo, int argument)
+{
+	bytea	   *image = numbered_image_in(fcinfo, argument);
+	hll_status	status;
+	Output		out;
+
+	if (LENGTH(image) < SLOW_IMAGE || (hll_image_stage(IMAGE(image)) == HLL_REGISTERS && named_width(IMAGE(image)) != 4))
+		return image;
+	WRITE_OUTPUT(out, CHANGED_ROOM(image), status, hll_image_convert(IMAGE(image), 8, OUTPUT(out)));
+	check_argument_status(status, argument);
+	return end_output(&out);
+}
+
 PG_FUNCTION_INFO_V1(hll_pg_agree);
 
+/* Reads slow images apart: see SLOW_IMAGE. */
 Datum
 hll_pg_agree(PG_FUNCTION_ARGS)
 {
-	bytea	   *left = numbered_image_in(fcinfo, 0);
-	bytea	   *right = numbered_image_in(fcinfo, 1);
+	bytea	   *left = quick_image_in(fcinfo, 0);
+	bytea	   *right = quick_image_in(fcinfo, 1);
 	uint8		same = 0;
 	size_t		failed = 0;
 	hll_status	status = hll_images_agree(IMAGE(left), IMAGE(right), &same, &failed);
@@ -130,8 +148,10 @@ static const char *
 fault_of(const uint8 *bytes, size_t size)
 {
 	size_t		own;
-	hll_status	status = hll_image_size(bytes, size, &own);
+	hll_status	status;
 
+	CHECK_FOR_INTERRUPTS();
+	status = hll_image_size(bytes, size, &own);
 	if (status == HLL_OK)
 		return own == size || is_empty_table(bytes, size) ? NULL : "trailing";
 	if (status > HLL_REGISTER)
@@ -172,6 +192,7 @@ hll_pg_first_image(PG_FUNCTION_ARGS)
 	bytea	   *image;
 	size_t		size;
 
+	CHECK_FOR_INTERRUPTS();
 	check_status(hll_image_size(IMAGE(bytes), &size));
 	image = palloc(VARHDRSZ + size);
 	SET_VARSIZE(image, VARHDRSZ + size);

@@ -21,6 +21,13 @@
 /* bytes and their length, as the library expects them */
 #define IMAGE(varlena) BYTES(varlena), LENGTH(varlena)
 
+/*
+ * An image of this size can take longer than a few milliseconds to read, if its coupons or exceptions were chosen to be slow
+ * (docs/OPERATING.md). A call of the library can't be stopped. So no call reads two such images, and the server looks for
+ * interrupts before each call. (Smaller sets are merged by one call, which takes a third of the time.)
+ */
+#define SLOW_IMAGE ((size_t) 65536)
+
 /* The bytea that a call writes an image into. */
 typedef struct Output
 {
@@ -55,7 +62,8 @@ extern void check_row_status(hll_status status, int64 row);
 extern uint8 checked_lg_k(const char *name, int64 lg_k);
 extern uint8 checked_width(int64 width);
 
-/* Raises an error if bytes follow an image. `what` and `number` say which image, for example "row" 17, or are NULL and 0. */
+/* Raises an error if bytes follow an image. `what` and `number` say which image, for example "row" 17, or are NULL and 0. It
+ * looks for interrupts: the caller reads the image next. */
 extern void check_whole(const uint8 *image, size_t size, const char *what, int64 number);
 
 /* Returns the image that is an argument, counted from 0, and the argument whose number an error will name. */

@@ -64,9 +64,11 @@ check_whole(const uint8 *image, size_t size, const char *what, int64 number)
 	size_t		own;
 	hll_status	status;
 
+	CHECK_FOR_INTERRUPTS();
 	if (hll_image_header_size(image, size) == size) /* the usual case, and faster */
 		return;
 	status = size == 0 ? HLL_TRUNCATED : hll_image_size(image, size - 1, &own);
+	CHECK_FOR_INTERRUPTS();
 	if (status == HLL_MEMORY)
 		refuse(status, "");
 	if (status != HLL_OK || is_empty_table(image, size))

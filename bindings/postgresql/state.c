@@ -7,7 +7,7 @@
 /* The server rounds sizes up to a power of two, up to this size. A state uses all that it gets. */
 #define MOST_ROUNDED ((size_t) 1024)
 
-/* An image of coupons that may be slow to read. */
+/* An image of coupons that is read only when there is room for all of it. */
 #define LARGE_IMAGE ((size_t) 4096)
 
 /* ---- memory */
@@ -165,6 +165,7 @@ image_of_state(State *state, uint8 width)
 	hll_status	status;
 	Output		out;
 
+	CHECK_FOR_INTERRUPTS();
 	/* 4-bit registers with many exceptions need more. */
 	WRITE_OUTPUT(out, Min(hll_state_size(state->bytes), size_of_registers(state)), status,
 				 hll_state_image(state->bytes, state->room, width, OUTPUT(out)));
