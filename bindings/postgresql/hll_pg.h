@@ -24,7 +24,7 @@
 /*
  * An image of this size can take longer than a few milliseconds to read, if its coupons or exceptions were chosen to be slow
  * (docs/OPERATING.md). A call of the library can't be stopped. So no call reads two such images, and the server looks for
- * interrupts before each call. (Smaller sets are merged by one call, which takes a third of the time.)
+ * interrupts before each call that reads one. (Smaller sets are merged by one call, which takes a third of the time.)
  */
 #define SLOW_IMAGE ((size_t) 65536)
 

@@ -330,6 +330,10 @@ def types_of_others(server):
     for kind in OWN_KINDS:
         for versions in ("",), (" VERSION '%s'" % EARLIER, "UPDATE"):
             drop_as_mallory(server, "CREATE %s;" % kind % "public.hyperloglog", *versions)
+    odd = '"%s $$ ""own\'s"'
+    server.ask("CREATE SCHEMA " + odd, "typed")
+    equal("a schema whose name has to be quoted", install(server, "typed", odd, "public"), "")
+    equal("types in " + odd, server.ask(ARGUMENT_TYPES, "typed"), "hll_add_agg|%s.hyperloglog\nhll_union_agg|%s.hyperloglog" % (odd, odd))
 
 
 def drop_as_mallory(server, statement, version, *update):

@@ -10,7 +10,7 @@ import subprocess
 from images import image_of, random_coupons
 from long_searches import unsorted_set
 from plain_images import set_image
-from report import SEED, check, equal
+from report import SEED, bytes_of, check, equal, load, union_of
 from server import HERE
 from unions import launched, settings
 
@@ -106,6 +106,21 @@ def looks(server):
     for call in AGGREGATES:
         looked(server, "SELECT %s IS NULL FROM images;" % call, len(slow))
     in_workers(server, len(slow))
+
+
+def apart(server):
+    """Images that are read apart: their unions beside the program's, and whether they agree."""
+    images = list(large_images())
+    alike = {"set": 0, "table": 0, "sorted": 0, "other set": 1, "exceptions": 2, "registers": 2}
+    server.ask("CREATE TABLE apart (name text, x bytea)")
+    load(server, "apart", images)
+    for a, x in images:
+        for b, y in images:
+            wanted = union_of([x, y], LG_K, 4 if a == b == "exceptions" else 8)
+            found = server.ask("""SELECT hll_merge(a.x, b.x), hll_agree(a.x, b.x), hll_merge(a.x, b.x) = (a.x::hyperloglog || b.x)::bytea
+                FROM apart a, apart b WHERE a.name = '%s' AND b.name = '%s'""" % (a, b)).split("|")
+            check("%s and %s" % (a, b), bytes_of(found[0]) == wanted, found[0])
+            equal("%s agrees with %s, and of the type" % (a, b), found[1:], ["t" if alike[a] == alike[b] else "f", "t"])
 
 
 def in_workers(server, slow):
