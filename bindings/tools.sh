@@ -1,4 +1,5 @@
 # SPDX-License-Identifier: Apache-2.0
+# shellcheck shell=sh
 # For the scripts `check` of the bindings: are tools here, and can they be had? Source it. Packages are installed only where
 # HLL_INSTALL=yes or CI=true is in the environment (`./check --install` at the top sets it).
 
@@ -11,13 +12,14 @@ has() {
 get() {
     [ "${HLL_INSTALL:-}" = yes ] || [ "${CI:-}" = true ] || return 0
     [ "$(id -u)" = 0 ] && has apt-get || return 0
-    echo "installing $*"
-    if [ -z "${tools_updated:-}" ]; then
-        tools_updated=yes
-        timeout 120 apt-get -q -o Acquire::Retries=1 -o Acquire::http::Timeout=20 update >/dev/null 2>&1
-    fi
-    DEBIAN_FRONTEND=noninteractive timeout 600 apt-get -q -y --no-install-recommends \
-        -o Acquire::Retries=1 -o Acquire::http::Timeout=20 install "$@" >/dev/null 2>&1 || echo "$* can't be had here"
+    echo "# installing $*"
+    # one after another, where parts run at the same time
+    flock /var/cache/apt sh -c '
+        options="-q -o Acquire::Retries=1 -o Acquire::http::Timeout=20 -o DPkg::Lock::Timeout=300"
+        [ -n "$(find /var/lib/apt/lists -name "*_Packages*" -mmin -60 2>/dev/null)" ] ||
+            timeout 120 apt-get $options update
+        DEBIAN_FRONTEND=noninteractive timeout 600 apt-get $options -y --no-install-recommends install "$@"
+    ' get "$@" >/dev/null 2>&1 || echo "# $* can't be had here"
 }
 
 # want COMMAND PACKAGE..: gets the packages where the command is missing.
@@ -29,7 +31,6 @@ want() {
 
 # Ends a part that can't be run here: its tests are skipped, and nothing failed.
 skip_part() {
-    echo "skipped: $*"
-    echo '0 passed, 0 failed'
+    echo "1..0 # SKIP $*"
     exit 0
 }

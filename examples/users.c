@@ -37,8 +37,11 @@ static struct counter *counter_of(void **tree, const struct counter *wanted)
         *made = *wanted;
         made->room = HLL_STATE_NEW;
         made->state = malloc(made->room);
-        if (made->state == NULL || hll_state_new(12, made->state, made->room) != HLL_OK)
+        if (made->state == NULL || hll_state_new(12, made->state, made->room) != HLL_OK) {
+            free(made->state);
+            free(made);
             return NULL;
+        }
         found = tsearch(made, tree, by_key);
     }
     return found == NULL ? NULL : *found;

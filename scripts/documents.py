@@ -347,11 +347,32 @@ def faults_of_python(code):
         yield from (f"no {name} in {module}" for name in re.findall(r"\w+", names) if name not in words)
 
 
+@functools.lru_cache(None)
+def parts_of_check():
+    """The options of ./check, and its parts."""
+    text = (ROOT / "check").read_text()
+    named = filter(str.islower, re.findall(r"\w+", re.search(r"^OTHERS=\((.*)\)$", text, re.M)[1]))
+    parts = {"proofs", "bindings", *named, *(path.parent.name for path in ROOT.glob("bindings/*/check"))}
+    return set(re.findall(r"^ +(--[\w-]+)\)", text, re.M)), parts
+
+
+def has_test(part, word):
+    """Whether a folder of bindings/ has a test with this word in its name, as far as its files tell."""
+    return any(word in path.stem or word in path.read_text("utf-8", "replace")
+               for path in (ROOT / "bindings" / part).rglob("*") if path.is_file() and path.suffix in (".py", ".sh", ".c", ".rs"))
+
+
 def faults_of_others(code):
     for words in calls_of(r"\./check", code):
-        text = (ROOT / "check").read_text()
-        parts = {*re.findall(r"^ +(--[\w-]+|\w+)\) ", text, re.M), *(path.parent.name for path in ROOT.glob("bindings/*/check"))}
-        yield from (f"no part {word} of ./check" for word in words if word not in parts)
+        options, parts = parts_of_check()
+        part = None
+        for word in words:
+            if word in parts:
+                part = word
+            elif word.startswith("--"):
+                yield from () if word in options else [f"no option {word} of ./check"]
+            elif part is None or not has_test(part, word):
+                yield f"no part {word} of ./check"
     for words in calls_of("rt", code):
         yield from (f"no command rt {word}" for word in words[:1] if word not in TOOLCHAIN)
     bins = re.findall(r'^name = "(\w+)"', (ROOT / "bench/rust/Cargo.toml").read_text(), re.M)

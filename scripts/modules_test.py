@@ -74,4 +74,4 @@ class ModulesTest(unittest.TestCase):
 
 
 if __name__ == "__main__":
-    sys.exit(unit_tests.run(__name__))
+    sys.exit(unit_tests.run())

@@ -180,4 +180,4 @@ class LabelTest(unittest.TestCase):
 
 
 if __name__ == "__main__":
-    sys.exit(unit_tests.run(__name__))
+    sys.exit(unit_tests.run())

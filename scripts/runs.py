@@ -9,7 +9,6 @@ runs are made with the programs for 64-bit ARM, in an emulator, where a cross co
 """
 import os
 import pathlib
-import shutil
 import subprocess
 import sys
 from concurrent.futures import ThreadPoolExecutor
@@ -70,23 +69,22 @@ def fault_of_row(row):
 
 
 def built_for_arm():
-    """How programs for 64-bit ARM are run here, and their folder; None where they can't be built or run."""
+    """How programs for 64-bit ARM are run here, and their folder."""
     target = "aarch64-unknown-linux-gnu"
-    if os.uname().machine == "aarch64" or not (shutil.which("aarch64-linux-gnu-gcc") and shutil.which("qemu-aarch64")):
-        return None
     subprocess.run(["make", "-s", "-C", ROOT / "programs", "TARGET=" + target], check=True)
     return ["qemu-aarch64", "-L", "/usr/aarch64-linux-gnu"], ROOT / "bin" / target
 
 
-def main():
+def faults_here():
+    """The faults of runs of the programs of this machine."""
     faults = list(faults_of([], ROOT / "bin"))
     with ThreadPoolExecutor(os.cpu_count()) as pool:
         faults += pool.map(fault_of_row, (row for path in TEXTS for row in rows_in(path)))
-    arm = built_for_arm()
-    if arm:
-        faults += faults_of(*arm)
-    else:
-        print("skipped: the programs for 64-bit ARM, as aarch64-linux-gnu-gcc or qemu-aarch64 is not here")
+    return faults
+
+
+def main():
+    faults = list(faults_of(*built_for_arm())) if sys.argv[1:] == ["arm"] else faults_here()
     for program, given, got in faults:
         if got:
             print("FAIL: %s on %r gives %r" % (program, given[:60], got))

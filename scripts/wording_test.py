@@ -101,4 +101,4 @@ class WordingTest(unittest.TestCase):
 
 
 if __name__ == "__main__":
-    sys.exit(unit_tests.run(__name__))
+    sys.exit(unit_tests.run())

@@ -24,8 +24,9 @@ from hll_sketches import ArgumentError, PrecisionError, Sketch, union_of
 from hll_sketches.dask import (
     LeftOut, PlacedImageError, sketch_aggregation, union_aggregation, union_by_key, union_of_bag, union_of_files)
 from images import built_program, random_image, with_words
-from report import check, counts, equal
+from report import check, comparisons, equal
 from slow import SlowPath, opened
+from tap import Tap, run_part
 
 FILES = 2000 if "--quick" in sys.argv else 10000
 
@@ -376,7 +377,7 @@ def arrow(frame):
     try:
         import pyarrow
     except ImportError:
-        print("not tried: a column of Arrow, as there is no pyarrow, which the distribution may not have")
+        print("# not tried: a column of Arrow, as there is no pyarrow, which the distribution may not have")
         return
     frames = [frame, frame.assign(image=pandas.array(frame["image"], dtype=pandas.ArrowDtype(pyarrow.binary())))]
     first, second = (by_key_at_12(dask.dataframe.from_pandas(one, npartitions=5), "day", "image").compute() for one in frames)
@@ -416,7 +417,7 @@ def lost_worker(client, folder, images, paths):
     check("the worker was killed in the middle", is_early and victim not in client.run(os.getpid).values(), times)
     check("its tasks were run again", sum(times.values()) > len(paths), times)
     check("three workers had their part", len(times) >= 3, times)
-    print("  %d files, opened %d times, by %d processes" % (len(paths), sum(times.values()), len(times)))
+    print("# %d files, opened %d times, by %d processes" % (len(paths), sum(times.values()), len(times)))
 
 
 PARTS = [
@@ -424,17 +425,8 @@ PARTS = [
     columns, lost_worker]
 
 
-def run(part, *arguments_of_all):
-    """Runs a part. One that breaks off is a failure, and the others go on."""
-    started = time.monotonic()
-    try:
-        part(*arguments_of_all)
-    except Exception as fault:
-        check(part.__name__, False, "%s: %s" % (type(fault).__name__, fault))
-    print("%s: %.1f s" % (part.__name__, time.monotonic() - started), flush=True)
-
-
 def main():
+    results = Tap(word for word in sys.argv[1:] if not word.startswith("--"))
     logging.disable(logging.ERROR)
     images = random_images(FILES)
     with tempfile.TemporaryDirectory(prefix="hll-") as name:
@@ -445,9 +437,8 @@ def main():
         options = {"threads_per_worker": 1, "processes": True, "dashboard_address": None, "local_directory": name}
         with LocalCluster(n_workers=3, **options) as cluster, Client(cluster) as client:
             for part in PARTS:
-                run(part, client, folder, images, paths)
-    print("%(passed)d passed, %(failed)d failed" % counts)
-    return 1 if counts["failed"] else 0
+                run_part(results, comparisons, part.__name__, functools.partial(part, client, folder, images, paths))
+    return results.finish()
 
 
 if __name__ == "__main__":

@@ -5,9 +5,10 @@
 #   run.sh BUILD            all tests of the library that `make` has built in BUILD; `make check` calls it so
 #   run.sh BUILD PROVED     tests of the calls, over a library that is built here from another build of the proved library
 #
-# Each test prints what it ran and 'N passed, M failed'; the last line sums them, and the status is 1 if one failed. What
-# can't be run here, for want of a program, is named.
+# Prints TAP. The words of $TESTS choose tests by their names.
 set -u
+. ../tools.sh
+. ../tap.sh
 
 build=$1
 tests=$build/tests
@@ -21,58 +22,7 @@ top=$(cd ../.. && pwd)
 text=$top/prebuilt/$($CC -dumpmachine | cut -d- -f1)/libhll_c.s
 arm=aarch64-unknown-linux-gnu
 version=$(sed -n 's/^#define HLL_VERSION_[A-Z]* \([0-9]*\)$/\1/p' hll.h | paste -sd. -)
-passed=0
-failed=0
 mkdir -p "$tests" || exit 1
-
-# Adds what a test printed last to the sums; a test that printed no counts, or ended badly, has failed.
-count() {
-    status=$1
-    last=$(tail -n 1 "$tests/log")
-    good=$(printf '%s\n' "$last" | sed -n 's/^.*: \([0-9][0-9]*\) passed, \([0-9][0-9]*\) failed$/\1/p')
-    bad=$(printf '%s\n' "$last" | sed -n 's/^.*: \([0-9][0-9]*\) passed, \([0-9][0-9]*\) failed$/\2/p')
-    if [ -z "$good" ]; then
-        good=0
-        bad=1
-    elif [ "$status" -ne 0 ] && [ "$bad" -eq 0 ]; then
-        bad=1
-    fi
-    passed=$((passed + good))
-    failed=$((failed + bad))
-}
-
-# A program that prints its counts.
-run() {
-    name=$1
-    shift
-    "$@" >"$tests/log" 2>&1
-    status=$?
-    count "$status"
-    sed "s/^/$name: /" "$tests/log"
-    [ "$status" -eq 0 ] || echo "$name: ended with status $status"
-}
-
-# A command that has to succeed; it counts as one test.
-expect() {
-    name=$1
-    shift
-    if "$@" >"$tests/log" 2>&1; then
-        passed=$((passed + 1))
-        echo "$name: 1 passed, 0 failed"
-    else
-        failed=$((failed + 1))
-        cat "$tests/log"
-        echo "$name: 0 passed, 1 failed"
-    fi
-}
-
-has() {
-    command -v "$1" >/dev/null 2>&1
-}
-
-skip() {
-    echo "$1: skipped, as $2 is not here"
-}
 
 # ---- the header, and what the libraries show
 
@@ -84,7 +34,7 @@ test_header() {
     expect "merge.c as c99" $CC $strict -std=c99 -I. -c -o "$tests/example.o" ../../examples/merge.c
     expect "users.c as c99" $CC $strict -std=c99 -I. -O1 -o "$tests/users" ../../examples/users.c "$build/libhll.a"
     if ! has "$CXX"; then
-        skip 'header as C++' "$CXX"
+        skip 'header as C++' "$CXX is not here"
         return
     fi
     for standard in c++11 c++17; do
@@ -108,7 +58,7 @@ test_expected() {
     if has python3; then
         expect 'numbers of estimates' python3 tests/expected.py --check
     else
-        skip 'numbers of estimates' python3
+        skip 'numbers of estimates' 'python3 is not here'
     fi
 }
 
@@ -151,7 +101,7 @@ test_calls() {
 
 test_memory() {
     if ! has valgrind; then
-        skip 'valgrind' valgrind
+        skip 'calls in valgrind' 'valgrind is not here'
         return
     fi
     kinds='definite,possible'
@@ -170,7 +120,7 @@ test_memory() {
 test_sanitized() {
     flags='-fsanitize=address,undefined -fno-sanitize-recover=all'
     if ! echo 'int main(void) { return 0; }' | $CC $flags -x c -o "$tests/probe" - 2>/dev/null || ! "$tests/probe"; then
-        skip 'sanitizers' "their library"
+        skip 'calls, sanitized' "the compiler's library for that is not here"
         return
     fi
     for name in calls buffers estimates rows threads registers states; do
@@ -296,7 +246,7 @@ refused_on_old() {
 test_processors() {
     [ "$(uname -m)" = x86_64 ] || return 0
     if ! has qemu-x86_64; then
-        skip 'older processors' qemu-x86_64
+        skip 'an older processor' 'qemu-x86_64 is not here'
         return
     fi
     expect 'an older processor, archive' refused_on_old "$build/example"
@@ -308,20 +258,18 @@ test_processors() {
     unset LD_LIBRARY_PATH
 }
 
-# The calls on 64-bit ARM, by an emulator; each of the tests that it runs prints its counts.
+# A test on 64-bit ARM, by an emulator.
+emulate() {
+    env -u MAKEFLAGS -u CC -u CXX make -s "emulated-$1" TARGET=$arm
+}
+
 test_arm() {
     for tool in aarch64-linux-gnu-gcc qemu-aarch64; do
-        has $tool || { skip 'the library for 64-bit ARM' $tool; return; }
+        has $tool || { skip 'calls on 64-bit ARM' "$tool is not here"; return; }
     done
-    env -u MAKEFLAGS -u CC -u CXX make -s emulated TARGET=$arm >"$tests/arm" 2>&1
-    status=$?
-    sed 's/^/64-bit ARM, /' "$tests/arm"
-    grep ' passed, [0-9]* failed$' "$tests/arm" >"$tests/counts"
-    while read -r line; do
-        echo "$line" >"$tests/log"
-        count 0
-    done <"$tests/counts"
-    expect 'all on 64-bit ARM' test "$status" -eq 0
+    for name in calls buffers estimates rows registers states threads refusals; do
+        run "$name on 64-bit ARM" emulate $name
+    done
 }
 
 # Installs below a folder, builds the example by the flags of the file for pkg-config, and takes all away again.
@@ -366,5 +314,4 @@ else
     test_arm
 fi
 
-echo "$passed passed, $failed failed"
-[ "$failed" -eq 0 ] && [ "$passed" -gt 0 ]
+finish

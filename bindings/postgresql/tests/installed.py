@@ -5,7 +5,7 @@ import re
 import shutil
 import subprocess
 
-from report import CHECKED, DATA, UNDEFINED, check, equal, refused
+from report import CHECKED, DATA, UNDEFINED, check, equal, refused, skip
 from server import EARLIER, HERE
 
 
@@ -32,7 +32,7 @@ EMPTY = "\\x0201070c030c0008"
 def beside_peer(server):
     """With postgresql-hll in one schema: each call goes to its own."""
     if not server.has_extension("hll", "postgresql-%s-hll"):
-        print("skipped: the tests beside postgresql-hll, as it is not here")
+        skip("the tests beside postgresql-hll", "it is not here")
         return
     server.ask("CREATE DATABASE peers")
     server.ask("CREATE EXTENSION hll", "peers")

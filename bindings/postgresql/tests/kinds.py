@@ -7,7 +7,7 @@ import struct
 import uuid
 
 from images import image_of_values
-from report import DATATYPE, SEED, bytes_of, check, equal, refused
+from report import DATATYPE, SEED, bytes_of, check, equal, refused, skip
 from unions import settings
 
 AGGREGATES = "hll_image_add_agg", "hyperloglog_agg"
@@ -129,7 +129,7 @@ def refused_kinds(server):
     found = server.ask("SELECT hyperloglog_agg(v) IS NULL FROM unnest(ARRAY[]::numeric[]) v")
     equal("no numeric", found, "t")
     if server.run("CREATE EXTENSION citext;"):
-        print("skipped: citext, as it is not here")
+        skip("citext", "it is not here")
         return
     refused_texts(server)
 

@@ -7,7 +7,7 @@ import threading
 
 from calls import bad_images
 from images import random_image
-from report import CANCELLED, IMAGE, IMAGES, MEMORY, QUICK, REFUSALS, array, check, equal, literal
+from report import CANCELLED, IMAGE, IMAGES, MEMORY, QUICK, REFUSALS, array, check, equal, literal, skip
 from server import Session
 
 SLOW = "SELECT hll_image_union_agg(image, 14), hll_image_add_agg(image) FROM slow, generate_series(1, 100000)"
@@ -30,7 +30,7 @@ def has_memory(kilobytes):
 def long_values(server):
     """An image before half a gigabyte of other bytes is cut out of them, or refused, and a text of this length is a value."""
     if not has_memory(KILOBYTES):
-        print("skipped: values of half a gigabyte, as memory is short")
+        skip("values of half a gigabyte", "memory is short")
         return
     answers = server.run(FRONTS % (", ".join(OF_FRONT), LONG)).split("|")
     for question, answer in itertools.zip_longest(OF_FRONT, answers, fillvalue=""):

@@ -4,7 +4,7 @@ import os
 import re
 import subprocess
 
-from report import CHECKED, DATA, check, equal, refused
+from report import CHECKED, DATA, check, equal, refused, skip
 from server import HERE
 
 PAGE = HERE.parent.parent / "docs" / "RECIPES.md"
@@ -29,7 +29,7 @@ def sections(server):
         if needed is None or server.has_extension(*needed):
             yield section
         else:
-            print("skipped: the recipes of %s, as it is not here" % needed[0])
+            skip("the recipes of %s" % needed[0], "it is not here")
 
 
 def recipes(server):

@@ -1,11 +1,12 @@
 # SPDX-License-Identifier: Apache-2.0
-"""What the parts of the tests share: counts, how much is tried, bytes in SQL, and the answers of the program."""
+"""What the parts of the tests share: comparisons, how much is tried, bytes in SQL, and the answers of the program."""
 import functools
 import os
 import subprocess
 import sys
 
 from images import built_program, with_words
+from tap import Comparisons
 
 SEED = 9001
 REASONS = "truncated family version lgk width stage preamble lgarr count coupon register".split()
@@ -13,18 +14,8 @@ QUICK = "--quick" in sys.argv
 GROUPS, IMAGES, REFUSALS = (500, 5000, 1000) if QUICK else (5000, 100000, 10000)
 IMAGE, ARGUMENT, NULL, CANCELLED, MEMORY, CHECKED = "22P03", "22023", "22004", "57014", "53200", "23514"
 DATA, DATATYPE, UNDEFINED = "22000", "42804", "42883"
-counts = {"passed": 0, "failed": 0}
-
-
-def check(name, is_right, found=""):
-    """Counts a test, and says what was found where it isn't right."""
-    counts["passed" if is_right else "failed"] += 1
-    if not is_right:
-        print("FAILED %s%s" % (name, ": %.600s" % (found,) if found != "" else ""), flush=True)
-
-
-def equal(name, found, wanted):
-    check(name, found == wanted, "%.200r in place of %.200r" % (found, wanted))
+comparisons = Comparisons()
+check, equal, skip = comparisons.check, comparisons.equal, comparisons.skip
 
 
 def refused(name, said, code, message=""):

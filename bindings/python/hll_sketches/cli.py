@@ -9,7 +9,7 @@ import os
 import signal
 import sys
 import textwrap
-from typing import IO, Any, Callable, List, Optional
+from typing import Any, Callable, List, Optional
 
 from . import __version__, commands
 from ._names import ESCAPING
@@ -218,7 +218,7 @@ _MORE = {
 class _Parser(argparse.ArgumentParser):
     """A parser that reports an error if its help can't be written."""
 
-    def _print_message(self, message: str, file: Optional[IO[str]] = None) -> None:
+    def _print_message(self, message: str, file: Any = None) -> None:
         if file is not None and file is sys.stdout:
             commands.put_text(message)
         else:

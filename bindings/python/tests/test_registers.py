@@ -9,7 +9,7 @@ import unittest
 from array import array
 from unittest import mock
 
-import common
+import common  # noqa: F401, for the path
 from hll_sketches import ArgumentError, ImageError, PrecisionError, Registers, Sketch, coupons
 from hll_sketches import _library, union_of
 

@@ -2,7 +2,7 @@
 """The worked rows of plans and the walks, carried out by calls of the package alone (docs/PLAN.md, "Rows")."""
 import unittest
 
-import common
+import common  # noqa: F401, for the path
 import row_plans
 from rows import TEXTS, rows_in
 

@@ -11,7 +11,7 @@ import time
 from contextlib import suppress
 from unittest import mock
 
-import common
+import common  # noqa: F401, for the path
 from command import COMMAND, CommandTest, environment, interruptible
 from hll_sketches import Sketch, files, merging
 from long_searches import stride_coupons, unsorted_set

@@ -6,7 +6,7 @@ import subprocess
 import sys
 
 from base import EXTENSION, FOLDER
-from report import check, counts, equal
+from report import check, comparisons, equal
 
 LIMITED = """
 import sqlite3, sys
@@ -44,7 +44,7 @@ def refusals():
     said = re.fullmatch(r"(.*)^(\d+) passed, (\d+) failed\n", done.stdout, re.S | re.M)
     check("refusals end with their counts", said is not None, done.stdout)
     if said is not None:
-        counts["passed"] += int(said[2])
-        counts["failed"] += int(said[3])
+        comparisons.passed += int(said[2])
+        comparisons.failed += int(said[3])
         check("refusals are many", int(said[2]) > 500, said[2])
         print(said[1], end="")

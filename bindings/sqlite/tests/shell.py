@@ -10,7 +10,7 @@ import tempfile
 from base import EXTENSION, FOLDER
 from images import image_of_coupons
 from mutants import KINDS, Mutants
-from report import SEED, check, equal
+from report import SEED, check, equal, skip
 
 CC = os.environ.get("CC", "cc")
 
@@ -30,7 +30,7 @@ def build():
 def old_processor():
     """On a processor without the instructions of x86-64-v2 the module is refused, and the shell goes on."""
     if not shutil.which("qemu-x86_64") or os.uname().machine != "x86_64":
-        print("skipped: the extension for SQLite on an older processor, as qemu-x86_64 is not here")
+        skip("the extension for SQLite on an older processor", "qemu-x86_64 is not here")
         return
     said = run("qemu-x86_64", "-cpu", "core2duo", shutil.which("sqlite3"), ":memory:", input=".load %s\nSELECT 6 * 7;\n" % EXTENSION)
     check("an older processor", re.search(r"CPU ISA level is lower than required\s+42", said.stdout), said.stdout)
@@ -105,7 +105,7 @@ def checked():
         found, done = answers(valgrind, EXTENSION)
         check("valgrind", found == wanted and done.returncode != 9 and "==" not in done.stdout, done.stdout[-600:])
     else:
-        print("skipped: the extension for SQLite in valgrind, as it is not here")
+        skip("the extension for SQLite in valgrind", "it is not here")
     sanitized(shell, wanted)
 
 
@@ -117,7 +117,7 @@ def sanitized(shell, wanted):
                     "-I", FOLDER.parent / "c", "-o", module, *sources, FOLDER.parent / "c" / "build" / "libhll.a", "-lm")
         library = run(CC, "-print-file-name=libasan.so").stdout.strip()
         if built.returncode or not os.path.isabs(library):
-            print("skipped: the extension for SQLite with sanitizers, as their library is not here")
+            skip("the extension for SQLite with sanitizers", "their library is not here")
             return
         environment = dict(os.environ, LD_PRELOAD=library, ASAN_OPTIONS="detect_leaks=0")
         found, done = answers([shell], module, env=environment)

@@ -1,5 +1,5 @@
 # SPDX-License-Identifier: Apache-2.0
-"""Tests of the extension in build/, and 'N passed, M failed' at the end: tests.py [PART ..]
+"""Tests of the extension in build/, as TAP: tests.py [WORD ..] runs all, or those with a word in their names.
 
 Images are compared with the plain model and hash of bench/ and bindings/postgresql/tests/images.py, which share no code
 with the library, and with the Python package.
@@ -19,7 +19,8 @@ import memory  # noqa: E402
 import shell  # noqa: E402
 import single  # noqa: E402
 import values  # noqa: E402
-from report import check, counts  # noqa: E402
+from report import comparisons  # noqa: E402
+from tap import Tap, run_part  # noqa: E402
 
 PARTS = [shell.build, single.worked_rows, single.functions, single.estimates, single.arguments, single.reasons, values.types,
          values.many, values.encodings, groups.unions, groups.words, groups.added, groups.growth, groups.lg_k, groups.sizes, groups.large,
@@ -29,16 +30,10 @@ PARTS = [shell.build, single.worked_rows, single.functions, single.estimates, si
 
 def main():
     warnings.simplefilter("ignore")     # the Python package may warn where a bound lowers a union
-    chosen = sys.argv[1:]
+    results = Tap(sys.argv[1:])
     for part in PARTS:
-        if chosen and part.__name__ not in chosen:
-            continue
-        try:
-            part()
-        except Exception as fault:
-            check(part.__name__, False, "%s: %s" % (type(fault).__name__, fault))
-    print("%(passed)d passed, %(failed)d failed" % counts)
-    return 1 if counts["failed"] or not counts["passed"] else 0
+        run_part(results, comparisons, "%s.%s" % (part.__module__, part.__name__), part)
+    return results.finish()
 
 
 if __name__ == "__main__":
