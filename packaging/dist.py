@@ -24,8 +24,9 @@ import tempfile
 
 ROOT = pathlib.Path(__file__).resolve().parent.parent
 sys.dont_write_bytecode = True
-sys.path[:0] = [str(ROOT / "scripts"), str(ROOT / "packaging")]
+sys.path[:0] = [str(ROOT / "scripts"), str(ROOT / "packaging"), str(ROOT / "tests")]
 import prebuilt  # noqa: E402
+import rows  # noqa: E402
 import sbom  # noqa: E402
 import trust  # noqa: E402
 
@@ -105,6 +106,7 @@ def changelog():
 def put_sources(dist):
     """The source package: all files of the checkout, META.json and debian/changelog."""
     files = {name: (ROOT / name).read_bytes() for name in output("git", "ls-files", "-z").split("\0") if name and (ROOT / name).is_file()}
+    files.update((str(path.relative_to(ROOT)), path.read_bytes()) for path in rows.texts())     # the walks, which a script makes
     files.update({"META.json": meta().encode(), "debian/changelog": changelog().encode()})
     with open(dist / ("%s-%s.tar.gz" % (NAME, version())), "wb") as raw, gzip.GzipFile("", "wb", 9, raw, epoch()) as packed, \
             tarfile.open(fileobj=packed, mode="w", format=tarfile.GNU_FORMAT) as tar:

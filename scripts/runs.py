@@ -16,7 +16,7 @@ from concurrent.futures import ThreadPoolExecutor
 sys.dont_write_bytecode = True
 ROOT = pathlib.Path(__file__).resolve().parent.parent
 sys.path.insert(0, str(ROOT / "tests"))
-from rows import TEXTS, rows_in  # noqa: E402
+from rows import rows_in, texts  # noqa: E402
 
 ONE = b"0201070a030801080500000c"
 # registers at lg_k 4, fourteen of them 0 and two 25 and 30: without words, and with kxq0 = 14 + 2^-25 + 2^-30
@@ -79,7 +79,7 @@ def faults_here():
     """The faults of runs of the programs of this machine."""
     faults = list(faults_of([], ROOT / "bin"))
     with ThreadPoolExecutor(os.cpu_count()) as pool:
-        faults += pool.map(fault_of_row, (row for path in TEXTS for row in rows_in(path)))
+        faults += pool.map(fault_of_row, (row for path in texts() for row in rows_in(path)))
     return faults
 
 

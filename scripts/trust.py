@@ -21,7 +21,7 @@ ROOT = pathlib.Path(__file__).resolve().parent.parent
 sys.dont_write_bytecode = True
 sys.path[:0] = [str(ROOT / "scripts"), str(ROOT / "tests")]
 import prebuilt  # noqa: E402
-from rows import TEXTS  # noqa: E402
+from rows import texts  # noqa: E402
 
 C = ROOT / "bindings" / "c"
 OWN = ("estimate", "optional", "state", "heap")
@@ -45,7 +45,7 @@ def built(place):
 def answers_on_rows(build):
     """How many test vectors a library runs, and how many of their checks fail."""
     run("cc", "-std=c99", "-O1", "-w", "-I%s" % C, "-o", build / "rows", C / "tests" / "rows.c", build / "libhll.a", "-pthread", cwd=build)
-    ran = subprocess.run([build / "rows", *TEXTS], stdout=subprocess.PIPE, text=True)
+    ran = subprocess.run([build / "rows", *texts()], stdout=subprocess.PIPE, text=True)
     found = re.search(r"^(\d+) rows were run.*(?:\n.*)*: \d+ passed, (\d+) failed$", ran.stdout, re.M)
     return tuple(map(int, found.groups())) if found else (0, 1)
 

@@ -14,7 +14,7 @@ from dataclasses import dataclass, replace
 
 sys.dont_write_bytecode = True
 from plain_reader import Refused, read, slot_of, value_of
-from rows import TEXTS, rows_in
+from rows import rows_in, texts
 
 WIDTHS = (4, 6, 8)
 LIST_SIZE, LEAST_SET_SIZE = 3, 5
@@ -250,7 +250,7 @@ def answer_of(plan):
 
 
 def main():
-    paths = [pathlib.Path(word) for word in sys.argv[1:]] or TEXTS
+    paths = [pathlib.Path(word) for word in sys.argv[1:]] or texts()
     rows = [(plan, answer) for path in paths for plan, _, answer in rows_in(path)]
     differing = [(plan, answer) for plan, answer in rows if answer_of(plan) != answer]
     for plan, answer in differing:

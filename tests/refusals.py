@@ -20,7 +20,7 @@ import time
 
 sys.dont_write_bytecode = True
 from built import ROOT, built_program
-from rows import TEXTS, rows_in
+from rows import rows_in, texts
 
 SECONDS = 600
 PIECE = 1 << 16      # the most bytes that one read takes
@@ -101,7 +101,7 @@ class Trial:
 def trials_of(program, library):
     """A trial of each plan of the rows, with what the program prints for it on both streams and its status."""
     found = {}
-    for path in TEXTS:
+    for path in texts():
         for plan, mark, answer in rows_in(path):
             found[plan] = ("", answer + "\n", 1) if mark == "!" else (answer + "\n", "", 0)
     return [Trial(program, library, plan, wanted) for plan, wanted in found.items()]

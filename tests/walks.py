@@ -3,20 +3,23 @@
 """Makes rows of plans that walk over images, values, orders and sizes, each with the answer of the plain model
 (docs/PLAN.md, "Rows").
 
-    tests/walks.py          writes them to tests/walks.txt
-    tests/walks.py check    compares them with that file, and prints 'N passed, M failed'
+    tests/walks.py          makes tests/walks.txt; git does not keep it
+    tests/walks.py check    compares their checksum with tests/walks.sha256, and prints 'N passed, M failed'
+    tests/walks.py write    writes the checksum too, after a change of this script
 
 A plan that is among the worked rows is left out.
 """
 import itertools
+import os
 import struct
 import sys
+import tempfile
 
 sys.dont_write_bytecode = True
 from long_searches import path_coupons, path_slots, registers_with, unsorted_set
 from plain_plans import WIDTHS, Coupons, Registers, Sketch, answer_of, greatest, written
 from plain_reader import Refused, read
-from rows import WALKS, WORKED, rows_in
+from rows import WALKS, WALKS_SUM, WORKED, rows_in, sum_of
 
 WORDS = struct.pack("<QQQ", 1, 2, 3)
 SLOT_0_IS_20 = 0x50000000
@@ -384,19 +387,34 @@ def walk_paths(rows):
         rows.image(image[:front] + b"".join(entries[:-1] + entries[:1]))
 
 
-def main():
+def text_of_walks():
     rows = Rows({plan for plan, _, _ in rows_in(WORKED)})
     for walk in (walk_four_bits, walk_changes, walk_headers, walk_groups, walk_values, walk_minimums, walk_updates,
                  walk_merges, walk_places, walk_stages, walk_paths):  # fmt: skip
         walk(rows)
-    walks = "\n".join(rows.lines).rstrip("\n") + "\n"
-    if sys.argv[1:] != ["check"]:
-        WALKS.write_text(walks)
-        return 0
-    is_same = WALKS.read_text() == walks
+    return ("\n".join(rows.lines).rstrip("\n") + "\n").encode()
+
+
+def put(walks):
+    """Writes the walks at once, as several tests may make them at the same time."""
+    place, name = tempfile.mkstemp(dir=WALKS.parent)
+    with open(place, "wb") as file:
+        file.write(walks)
+    os.chmod(name, 0o644)
+    os.replace(name, WALKS)
+
+
+def main():
+    walks, words = text_of_walks(), sys.argv[1:]
+    if words == ["write"]:
+        WALKS_SUM.write_text(sum_of(walks))
+    is_same = WALKS_SUM.exists() and sum_of(walks) == WALKS_SUM.read_text()
     if not is_same:
-        print("tests/walks.txt is not what tests/walks.py makes: run it")
-    print("%d passed, %d failed" % (is_same, not is_same))
+        print("the walks are not those of tests/walks.sha256: after a change of tests/walks.py, run tests/walks.py write")
+    if words == ["check"]:
+        print("%d passed, %d failed" % (is_same, not is_same))
+    elif is_same:
+        put(walks)
     return not is_same
 
 

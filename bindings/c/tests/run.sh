@@ -17,12 +17,19 @@ CXX=${CXX:-c++}
 strict='-Wall -Wextra -pedantic -Werror'
 test_flags="$strict -Wno-unused-function -O1 -g -std=c99"
 wraps='-Wl,--wrap=malloc,--wrap=calloc,--wrap=realloc,--wrap=aligned_alloc,--wrap=posix_memalign,--wrap=free'
-rows='../../crates/hll_vectors/stdin ../../tests/walks.txt'
+rows=../../crates/hll_vectors/stdin
 top=$(cd ../.. && pwd)
 text=$top/prebuilt/$($CC -dumpmachine | cut -d- -f1)/libhll_c.s
 arm=aarch64-unknown-linux-gnu
 version=$(sed -n 's/^#define HLL_VERSION_[A-Z]* \([0-9]*\)$/\1/p' hll.h | paste -sd. -)
 mkdir -p "$tests" || exit 1
+
+# The walks are made by a script, which needs Python; a source package has them.
+if (cd ../../tests && sha256sum --check --status walks.sha256 2>/dev/null) || { has python3 && python3 ../../tests/walks.py; }; then
+    rows="$rows ../../tests/walks.txt"
+else
+    skip 'walks' 'python3, which makes these test vectors, is not here'
+fi
 
 # ---- the header, and what the libraries show
 

@@ -10,7 +10,7 @@ from images import (greatest, image_of, image_of_coupons, image_of_values, merge
                     random_image, sketch_of, width_of, with_words, written)
 from report import (ARGUMENT, IMAGE, NULL, REASONS, SEED, all_bytes_of, answer_of, bytes_of, check, equal, literal,
                     load, refused, union_of)
-from rows import TEXTS, rows_in
+from rows import rows_in, texts
 
 # ---- worked rows
 
@@ -19,7 +19,7 @@ PLAN_LINE = r"image ([0-9a-fA-F]{2})+|new \d+ \d+|union \d+ \d+ \d+|fold \d+"
 
 def rows_of_calls():
     """The lines of the plans and the answers of the worked rows and the walks whose plans have no coupons."""
-    for plan, mark, answer in (row for path in TEXTS for row in rows_in(path)):
+    for plan, mark, answer in (row for path in texts() for row in rows_in(path)):
         lines = [line for line in plan.decode("latin-1").split("\n") if not line.startswith("#")]
         if all(re.fullmatch(PLAN_LINE, line) for line in lines):
             yield lines, mark + " " + answer

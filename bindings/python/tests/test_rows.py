@@ -4,13 +4,13 @@ import unittest
 
 import common  # noqa: F401, for the path
 import row_plans
-from rows import TEXTS, rows_in
+from rows import rows_in, texts
 
 
 class RowsTest(unittest.TestCase):
     def test_rows(self):
         ran, passed_over = 0, 0
-        for plan, mark, words in (row for path in TEXTS for row in rows_in(path)):
+        for plan, mark, words in (row for path in texts() for row in rows_in(path)):
             wanted = f"{mark} {words}"
             answer = row_plans.answer(plan, wanted)
             if answer is None:
