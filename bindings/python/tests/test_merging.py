@@ -301,7 +301,8 @@ class RefusalsTest(LaidOut):
         """A merge over processes, in a group of its own, which waits for more names."""
         names = self.lay_out()
         self.write("one.hll", b"as it was")
-        command = [*COMMAND, "merge", "--files-from", "-", "--jobs", "3", "-o", "one.hll"]
+        words = ["--files-from", "-", "--jobs", "3", "--lg-k", "12", "-o", "one.hll"]
+        command = [*COMMAND, "merge", *words]
         running = subprocess.Popen(
             command, stdin=subprocess.PIPE, stdout=subprocess.PIPE, stderr=subprocess.PIPE,
             cwd=self.folder, env=environment(), start_new_session=True, preexec_fn=interruptible,
