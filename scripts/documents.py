@@ -359,7 +359,7 @@ def parts_of_check():
 def has_test(part, word):
     """Whether a folder of bindings/ has a test with this word in its name, as far as its files tell."""
     return any(word in path.stem or word in path.read_text("utf-8", "replace")
-               for path in (ROOT / "bindings" / part).rglob("*") if path.is_file() and path.suffix in (".py", ".sh", ".c", ".rs"))
+               for path in (ROOT / "bindings" / part).rglob("*") if path.is_file() and path.suffix in (".py", ".sh", ".c", ".cpp", ".rs"))
 
 
 def faults_of_others(code):
@@ -369,9 +369,11 @@ def faults_of_others(code):
         for word in words:
             if word in parts:
                 part = word
+            elif word.isupper() or word == "..":
+                part = part or word     # what a reader puts there
             elif word.startswith("--"):
                 yield from () if word in options else [f"no option {word} of ./check"]
-            elif part is None or not has_test(part, word):
+            elif part not in parts or not has_test(part, word):
                 yield f"no part {word} of ./check"
     for words in calls_of("rt", code):
         yield from (f"no command rt {word}" for word in words[:1] if word not in TOOLCHAIN)
