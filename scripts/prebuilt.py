@@ -177,6 +177,43 @@ def with_stable_labels(text):
     return LOCAL.sub(lambda it: it[1] + names.get(it[2], it[2]), text)
 
 
+QUOTED = re.compile(r'"([^"]*)"')
+DATA = re.compile(r"\s*\.(?:file|ident|ascii|asciz|string)\b")
+
+
+def plain_name(name):
+    """Returns a name of letters, digits, `_` and `.`, which every assembler takes: `a.b.c.48f335490f6b880f` for
+    `a::b::c::<#48f335490f6b880f>`. Other names of types, and of traits after a `+`, are kept too."""
+    return re.sub(r"[^\w.]+", "_", re.sub(r"::<#(\w+)>", r".\1", name).replace("::", ".").replace("+", ".")).strip("_")
+
+
+def with_plain_names(text):
+    """Returns clang's text with plain names in place of quoted ones, which old versions of GNU's assembler reject in operands."""
+    lines = text.splitlines(keepends=True)
+    code = "".join(QUOTED.sub("", line) for line in lines if not DATA.match(line))
+    taken, plain = set(re.findall(r"[\w.$]+", code)), {}
+
+    def put(found):
+        name = found[1]
+        if name not in plain:
+            plain[name] = plain_name(name)
+        return plain[name]
+
+    made = []
+    for line in lines:
+        if DATA.match(line):
+            made.append(line)
+        elif line.lstrip().startswith(".section"):      # what follows the name are flags
+            head, comma, flags = line.partition(",")
+            made.append(QUOTED.sub(lambda it: it[1] if it[1].startswith(".note.") else put(it), head) + comma + flags)
+        else:
+            made.append(QUOTED.sub(put, line))
+    same = [name for name in plain.values() if list(plain.values()).count(name) > 1 or name in taken]
+    if same:
+        raise Unknown("two names become one: %s" % ", ".join(sorted(set(same))))
+    return "".join(made)
+
+
 def said_of(lines):
     """Returns what VERDICT has of the prover's lines: the functions in C that the proof rests on, and the verdict, the same
     whatever earlier checks had kept. The gate compares them with those of `rt ci`, which proves everything from nothing."""
@@ -201,7 +238,7 @@ def made(rtlib, text, jobs):
             OTHERS.mkdir(exist_ok=True)
             call(rtlib, text.crate, "build", *words, "--toolchain", str(pathlib.Path(rtlib.KIT, "toolchain")), "--backend", "rattle",
                  "-o", str(OTHER_COMPILER))
-        return with_stable_labels(kept.read_text()), said_of(lines)
+        return with_plain_names(with_stable_labels(kept.read_text())), said_of(lines)
 
 
 def kit():

@@ -179,5 +179,44 @@ class LabelTest(unittest.TestCase):
             self.of("a", "b")
 
 
+class NameTest(unittest.TestCase):
+    TEXT = """\
+	.file	"a::b"
+	.section	".text.a::b::<#12ab>","ax",@progbits
+	.type	"a::b::<#12ab>",@function
+"a::b::<#12ab>":
+	callq	"a::c::<[u8]>"
+	jmpq	*".Lswitch.table.a::T+b.1.rel"(,%rax,8)
+	.size	"a::b::<#12ab>", .Lfunc_end0-"a::b::<#12ab>"
+	.ascii	"a::b \\"<#12ab>\\""
+	.section	".note.GNU-stack","",@progbits
+"""
+
+    def test_plain_names(self):
+        """Names are letters, digits, `_` and `.`; what is data or a flag stays."""
+        self.assertEqual(prebuilt.with_plain_names(self.TEXT), """\
+	.file	"a::b"
+	.section	.text.a.b.12ab,"ax",@progbits
+	.type	a.b.12ab,@function
+a.b.12ab:
+	callq	a.c._u8
+	jmpq	*.Lswitch.table.a.T.b.1.rel(,%rax,8)
+	.size	a.b.12ab, .Lfunc_end0-a.b.12ab
+	.ascii	"a::b \\"<#12ab>\\""
+	.section	.note.GNU-stack,"",@progbits
+""")
+
+    def test_names_that_become_one(self):
+        for text in ('\tcallq\t"a::b"\n\tcallq\t"a+b"\n', '\tcallq\t"a::b"\n\tcallq\ta.b\n'):
+            with self.assertRaisesRegex(prebuilt.Unknown, "two names become one: a.b"):
+                prebuilt.with_plain_names(text)
+
+    def test_the_text_that_is_there(self):
+        """No operand of it is quoted, which GNU's assembler 2.35 rejects."""
+        for path in sorted((pathlib.Path(__file__).resolve().parent.parent / "prebuilt").glob("*/*.s")):
+            quoted = [line for line in path.read_text().splitlines() if '"' in line and not prebuilt.DATA.match(line)]
+            self.assertEqual([line for line in quoted if not line.startswith("\t.section\t") or line.startswith('\t.section\t"')], [], path)
+
+
 if __name__ == "__main__":
     sys.exit(unit_tests.run())
