@@ -6,6 +6,7 @@ if [ "$(id -u)" = 0 ] && command -v ldconfig >/dev/null; then
     echo 'ldconfig    # so that programs find libhll.so'
     ldconfig
 fi
-if ! ldconfig -p 2>/dev/null | grep -q " => $1/libhll.so.0$"; then
-    echo "To run programs that are linked with -lhll: export LD_LIBRARY_PATH=$1"
+if ! ldconfig -p 2>/dev/null | grep -qF " => $1/libhll.so.0"; then
+    echo "To run programs that are linked with -lhll: export LD_LIBRARY_PATH=\"$1\""
 fi
+echo 'To install the command hll and the Python package: pip install ./bindings/python'

@@ -185,7 +185,7 @@ try_readme() {
 make_in() {
     rm -rf "$1"
     mkdir "$1" || return 1
-    cp Makefile ./*.[ch] hll.map hll.pc.in "$1" || return 1
+    cp Makefile ./*.[ch] hll.map hll.pc.in pc.sh "$1" || return 1
     make -s -C "$1" PROVED="$2" all
 }
 
@@ -211,6 +211,40 @@ test_other_build() {
     run states "$tests/states-other" 500
 }
 
+# Copies what a build of the library needs into a folder that is there.
+copy_sources() {
+    mkdir -p "$1/bindings/c" "$1/bindings/cpp" "$1/examples" || return 1
+    cp -R "$top/prebuilt" "$1" && cp Makefile ./*.[ch] ./*.sh hll.map hll.pc.in "$1/bindings/c" && cp ../cpp/hll.hpp "$1/bindings/cpp" &&
+        cp "$top/examples/merge.c" "$1/examples" || return 1
+    (cd "$top" && tar -cf - --exclude=out --exclude=must-fail crates crates.txt HANDLES scripts/prebuilt.sh scripts/prebuilt.mk scripts/installable.sh) |
+        tar -xf - -C "$1"
+}
+
+# A checkout and a PREFIX whose paths have spaces, quotes and letters that are not ASCII: it is the same library, and a program
+# is built by the flags of pkg-config. A PREFIX that is not absolute, or can't be written, is rejected, and nothing is installed.
+try_odd_paths() {
+    place=$(mktemp -d) || return 1
+    odd="$place/a b 'c\" é"
+    mkdir "$odd" && copy_sources "$odd" && install_oddly
+    found=$?
+    rm -rf "$place"
+    return $found
+}
+
+install_oddly() {
+    make -s -C "$odd/bindings/c" install PREFIX="$odd/to it's \"" || return 1
+    cmp "$odd/bindings/c/build/libhll.so" "$build/libhll.so" || return 1
+    if has pkg-config; then
+        flags=$(PKG_CONFIG_PATH="$odd/to it's \"/lib/pkgconfig" pkg-config --cflags --libs hll) || return 1
+        eval "$CC $strict -std=c99 -o \"\$tests/odd\" ../../examples/merge.c $flags" || return 1
+        LD_LIBRARY_PATH="$odd/to it's \"/lib" try_example "$tests/odd" || return 1
+    fi
+    make -s -C "$odd/bindings/c" uninstall PREFIX="$odd/to it's \"" && [ -z "$(find "$odd/to it's \"" ! -type d)" ] || return 1
+    ! make -s -C "$odd/bindings/c" install PREFIX=relative 2>"$tests/said" && grep "PREFIX has to be an absolute path, and is 'relative'" "$tests/said" &&
+        [ ! -e "$odd/bindings/c/relative" ] || return 1
+    ! make -s -C "$odd/bindings/c" install PREFIX=/dev/null/none 2>"$tests/said" && grep "run make install as root" "$tests/said"
+}
+
 # `make` where the command rt isn't, in a copy of what it needs: from prebuilt/ it builds the same library; where a source
 # or a text has changed it builds nothing, and says why.
 make_without_rt() {
@@ -220,10 +254,7 @@ make_without_rt() {
 
 try_without_rt() {
     place=$(mktemp -d) || return 1
-    mkdir -p "$place/tools" "$place/bindings/c" || return 1
-    cp -R "$top/prebuilt" "$place" && cp Makefile ./*.[ch] hll.map hll.pc.in "$place/bindings/c" || return 1
-    (cd "$top" && tar -cf - --exclude=out --exclude=must-fail crates crates.txt HANDLES scripts/prebuilt.sh scripts/prebuilt.mk) |
-        tar -xf - -C "$place" || return 1
+    mkdir "$place/tools" && copy_sources "$place" || return 1
     for tool in make sh mkdir find sed cc as ld ar objcopy cp mv rm awk sort tr xargs sha256sum cut cat grep dirname; do
         ln -s "$(command -v $tool)" "$place/tools/$tool" || return 1
     done
@@ -315,6 +346,7 @@ else
     expect 'users of a million keys' million_keys
     expect 'the program of the README' try_readme
     expect 'install and uninstall' try_install
+    expect 'paths with spaces and quotes' try_odd_paths
     expect 'without rt' try_without_rt
     test_processors
     expect 'the same bytes from two folders' try_two_folders
