@@ -7,10 +7,11 @@
 
 A text has each public name of its crate with its signature and its clauses, and then the definitions of the crate's specs/
 that clauses of any crate name, or that such definitions name in turn. So a name that moves, a clause that weakens and a
-definition that changes is seen in one diff. Two lists are kept by hand, and every line of them is tried:
+definition that changes is seen in one diff. Three lists are kept by hand, and every line of them is tried:
 
     surface/lists/inner.txt     modules and names that are public for crates of this repository alone, and these crates
     surface/lists/memory.txt    each name that can fail with Memory, and the test that makes its allocations fail; `none` and why
+    surface/lists/paths.txt     paths that callers write, through re-exports too: each has to lead to a public name
 """
 import difflib
 import pathlib
@@ -445,6 +446,73 @@ def faults_of(names, inner, memory):
             yield "memory.txt says that allocations of %s fail in %s, which is not a test" % (name, test)
 
 
+# ---- paths that callers write
+
+
+def of_type(path):
+    """A path with a method at its type: hll_base::hash::Hasher for MurmurHash3X64128::finish at MurmurHash3X64128::finish."""
+    found = re.fullmatch(r"(\w+::\w+)::.+ for (\w+)[^:]*::(\w+)", path)
+    return "::".join(found.groups()) if found else path
+
+
+def uses_of(place, text):
+    """What a module's text gives out under other paths: the path here, and the one it stands for."""
+    crate = place.split("::")[0]
+    for line in re.findall(r"^pub use ([^;]+);", text, re.M):
+        path, _, several = flat(line).partition("::{")
+        for name in several.rstrip("}").split(", ") if several else [path.split("::")[-1]]:
+            whole = path if name == "self" or not several else "%s::%s" % (path, name)
+            whole = whole if whole.startswith("hll_") else "%s::%s" % (crate, whole)
+            yield "%s::%s" % (place, whole.split("::")[-1]), whole
+
+
+class Paths:
+    """The public names of all crates, by each path that leads to them."""
+
+    def __init__(self, names):
+        self.names = {of_type(name.path): name for name in names}
+        # a type's methods may be written in any module of its crate
+        self.methods = {tuple(path.split("::")[i] for i in (0, 2, 3)) for path in self.names if path.count("::") == 3}
+        self.modules, self.uses = set(), {}
+        for crate, is_program in crates():
+            for place, text, is_public in modules(crate, is_program):
+                if is_public:
+                    self.modules.add(place)
+                    self.uses.update(uses_of(place, text))
+
+    def followed(self, path):
+        """A path with each re-export in it replaced by what it stands for."""
+        parts = path.split("::")
+        for count in range(len(parts), 1, -1):
+            whole = self.uses.get("::".join(parts[:count]))
+            if whole:
+                return self.followed("::".join([whole] + parts[count:]))
+        return path
+
+    def leads(self, path):
+        """Whether a path leads to a public module or name, or to a variant or a field of one."""
+        whole = self.followed(path)
+        if whole == path and "::".join(path.split("::")[:2]) not in self.modules and path.count("::") > 1:
+            return False
+        if whole in self.modules or whole in self.names:
+            return True
+        outer, _, last = whole.rpartition("::")
+        if outer in self.names and (whole.split("::")[0], outer.split("::")[-1], last) in self.methods:
+            return True
+        item = self.names.get(outer)
+        inside = item and re.match(r"pub (?:enum|struct) .*?\{(.*)\}", item.signature)
+        return bool(inside and re.search(r"(?:^|[{,] |pub )%s\b" % last, inside[1].strip()))
+
+
+def lost_paths(names):
+    """The lines of paths.txt that lead to nothing public."""
+    paths = Paths(names)
+    lines = (LISTS / "paths.txt").read_text().splitlines()
+    for path in (line for line in lines if line and not line.startswith("#")):
+        if not paths.leads(path):
+            yield "paths.txt names %s, which leads to nothing public" % path
+
+
 # ---- the texts
 
 
@@ -481,7 +549,7 @@ def texts():
         cited.cite("\n".join(name.clauses), name.imports)
     inner, memory = listed("inner.txt"), listed("memory.txt")
     made = {crate: text_of(crate, its, cited.found, specs, inner, memory) for crate, its in found.items()}
-    return made, names, list(faults_of(names, inner, memory))
+    return made, names, [*faults_of(names, inner, memory), *lost_paths(names)]
 
 
 def main():

@@ -3,9 +3,8 @@
 ghost use Rattle.std.specs.Prelude.{◌≡◌, ◌↔◌, ◌^◌, ◌<◌, ◌≤◌, length, All, IsTrue};
 ghost use Rattle.hll_kernels.specs.Packed.{zero_nibbles};
 
-use hll_kernels::groups::{pack_group, unpack_group};
-use hll_kernels::kernels::{all_zero, count_zeros, max_into, units};
-use hll_kernels::nibbles::lower_nibbles;
+use hll_arrays::kernels::{count_zeros, lower_nibbles, max_into, pack_group, units, unpack_group};
+use hll_kernels::kernels::all_zero;
 
 /// The offsets of slices in an array of 160 bytes, and the length of the longest slice.
 const OFFSETS: [usize; 4] = [0, 1, 7, 30];

@@ -1,8 +1,6 @@
 // SPDX-License-Identifier: Apache-2.0
 //! The loops over bytes of registers, at values worked out by hand.
-use hll_kernels::groups::pack_group;
-use hll_kernels::kernels::units;
-use hll_kernels::nibbles::lower_nibbles;
+use hll_arrays::kernels::{lower_nibbles, pack_group, units};
 
 #[test]
 fn kernels(rt: HostRuntime) {
