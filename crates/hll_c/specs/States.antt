@@ -1,6 +1,6 @@
 -- SPDX-License-Identifier: Apache-2.0
 -- What calls do with states in caller-owned memory (docs/MODEL.md, "States of a counter").
-use Rattle.std.specs.Prelude.{◌≡◌, ℕ, ◌*◌, ◌<◌, ◌≤◌, ◌==◌, ◌⊎◌, not, List, length, drop}
+use Rattle.std.specs.Prelude.{◌≡◌, ◌≢◌, ℕ, ◌*◌, ◌<◌, ◌≤◌, ◌==◌, ◌⊎◌, not, List, length, drop}
 use Rattle.hll_base.specs.Reason.{number_of}
 use Rattle.hll_base.specs.declared.error.Reason.{Reason}
 use Rattle.hll_base.specs.declared.error.Reason.TheVariants.{Argument, Memory, Register}
@@ -17,7 +17,7 @@ use Rattle.hll_state.specs.declared.header.Header.{Header}
 use Rattle.hll_state.specs.declared.join.Joined.{Joined}
 use Rattle.hll_state.specs.declared.join.Joined.TheVariants.{Done, NoRoom, OtherLgK}
 use Rattle.hll_c.specs.Answers.{ok_code, buffer_code, RefusesWith}
-use Rattle.hll_c.specs.Calls.{IsAtWidth}
+use Rattle.hll_c.specs.Calls.{IsWidth, HasWidth}
 use Rattle.hll_c.specs.Estimates.{IsEstimateOfContent}
 use Rattle.hll_c.specs.declared.estimate.HllEstimate.{HllEstimate}
 
@@ -54,9 +54,18 @@ pub data RefusesState (InRange : Type 0) (elements : List (List ℕ)) : Reason �
   state_register : InRange → OfState elements (λ x. IsLegal x → ⊥) → RefusesState InRange elements Register
   state_memory : InRange → IsState elements → RefusesState InRange elements Memory
 
+-- a sketch at the width of a number of bits
+pub record HasWidthOfBits (bits : ℕ) (x y : Sketch) : Type 0 where
+  pub width_is : IsWidth bits
+  pub is : HasWidth width_is.width x y
+
 -- the sketch of a state, at a width
 abbrev pub IsOfState : ℕ → List (List ℕ) → Sketch → Type 0
-IsOfState bits old y = OfState old (λ x. IsAtWidth bits x y)
+IsOfState bits old y = OfState old (λ x. HasWidthOfBits bits x y)
+
+-- an estimate needs no allocation
+abbrev pub RefusesEstimateOfState : List (List ℕ) → Reason → Type 0
+RefusesEstimateOfState elements r = RefusesState (Unit {0}) elements r × (r ≢ Memory)
 
 -- what is reported of a state
 abbrev pub SaysEstimateOfState : List (List ℕ) → HllEstimate → Type 0

@@ -25,7 +25,7 @@ ghost use Rattle.hll_c.specs.ByteRegisters.{HaveValues, MergesImageInto, MergesR
 ghost use Rattle.hll_c.specs.Calls.{AreNewArguments, IsEmptyAt, IsMadeOf, IsFoldOf, RefusesFold, AsksWidth, IsWidth, IsAtWidth, IsCleared, AreOfCoupon, HasCoupon, HasValues, AreUnionArguments, IsUnionOf, AreBatchArguments, IsUnionOfBatch, SaysAgreement, PutsCoupons, PutsCouponsOf};
 ghost use Rattle.hll_c.specs.Estimates.{SaysEstimate, SaysEstimateOfBytes, SaysEstimateOfCounts, RefusesCounts};
 ghost use Rattle.hll_c.specs.Info.{SaysInfo, SaysHistogram};
-ghost use Rattle.hll_c.specs.States.{MakesState, AddsToState, IsOfState, SaysEstimateOfState, RefusesState, JoinsImage, JoinsState};
+ghost use Rattle.hll_c.specs.States.{MakesState, AddsToState, IsOfState, SaysEstimateOfState, RefusesEstimateOfState, RefusesState, JoinsImage, JoinsState};
 ghost use Rattle.hll_state.specs.Memory.{IsOnlyRead};
 ghost use Rattle.hll_c.specs.declared.estimate.HllEstimate.{HllEstimate};
 ghost use Rattle.hll_c.specs.declared.info.HllInfo.{HllInfo};
@@ -77,8 +77,8 @@ pub extern "C" fn hll_estimate(alloc: Global, image: &[u8], estimate: &mut HllEs
 /// Checks whether the bytes begin with an image.
 ///
 /// Returns the reason of the first check that they fail (docs/FORMAT.md, "Order of checks"), or `Memory`. Allocates a table for
-/// coupons, except for 1 to 128 coupons or for coupons that ascend in a compact image; and a map for the exceptions of 4-bit
-/// registers, if there are any.
+/// coupons, except for at most 128 or ascending ones in a compact image and for 1 to 128 in an updatable one; and a map for the
+/// exceptions of 4-bit registers, if there are any.
 #[unsafe(no_mangle)]
 pub extern "C" fn hll_image_check(alloc: Global, image: &[u8]) -> u8
     ensures { Tests ((x : Sketch) × IsReadAs image.now x) (RefusesTested image.now) result }
@@ -383,7 +383,7 @@ pub extern "C" fn hll_registers_add_coupons(registers: &mut [u8], coupons: &[u32
 /// Returns 15, and sets `coarser` to the image's `lg_k`, if the image has registers that are not all 0, and fewer of them
 /// than the caller. Returns `Argument` if the number of the caller's registers is not 2^`lg_k`, the reason of the first check
 /// that the image fails, or `Memory`. Allocates a map for the exceptions of 4-bit registers, and a table for coupons, except
-/// for 1 to 128 coupons or for coupons that ascend in a compact image.
+/// for at most 128 or ascending ones in a compact image and for 1 to 128 in an updatable one.
 #[unsafe(no_mangle)]
 pub extern "C" fn hll_registers_merge(
     alloc: Global,
@@ -629,7 +629,7 @@ pub extern "C" fn hll_state_image(
 /// change, but not its sketch. Allocates nothing.
 #[unsafe(no_mangle)]
 pub extern "C" fn hll_state_estimate(state: &mut [[u8; 4]], estimate: &mut HllEstimate) -> u8
-    ensures estimate { Reports HllEstimate (SaysEstimateOfState state.old) (RefusesState (Unit {0}) state.old) estimate.old estimate.new result }
+    ensures estimate { Reports HllEstimate (SaysEstimateOfState state.old) (RefusesEstimateOfState state.old) estimate.old estimate.new result }
     ensures kept { IsOnlyRead state.old state.new }
 {
     report(state::estimate_of(state), estimate)

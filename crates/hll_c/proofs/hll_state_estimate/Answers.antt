@@ -1,9 +1,17 @@
 -- SPDX-License-Identifier: Apache-2.0
-use Rattle.hll_c.specs.States.{SaysEstimateOfState, RefusesState}
+use Rattle.std.proofs.Common.{◌≢◌, Result, Ok, Err}
+use Rattle.std.specs.Prelude.{IfErr}
+use Rattle.hll_base.specs.declared.error.Reason.TheVariants.{Memory}
+use Rattle.hll_c.specs.States.{SaysEstimateOfState, RefusesEstimateOfState, RefusesState}
 use Rattle.hll_c.proofs.Answers.{reports_of}
 use Rattle.hll_c.proofs.hll_state_estimate.Goals as goal
 
+-- two facts of one error
+both : {T E : Type 0} (r : Result T E) (P Q : E → Type 0) → IfErr r P → IfErr r Q → IfErr r (λ e. P e × Q e)
+both (Ok x) P Q p q = tt
+both (Err e) P Q p q = (p, q)
+
 pub returns-clause-estimate : goal.returns-clause-estimate
 returns-clause-estimate c =
-    reports_of (SaysEstimateOfState c.args.state.now) (RefusesState (Unit {0}) c.args.state.now) c.estimate_of.result c.args.estimate.now c.report.new.place c.report.result
-    c.estimate_of.ensures.ok c.estimate_of.ensures.err c.report.ensures
+    reports_of (SaysEstimateOfState c.args.state.now) (RefusesEstimateOfState c.args.state.now) c.estimate_of.result c.args.estimate.now c.report.new.place c.report.result
+    c.estimate_of.ensures.ok (both c.estimate_of.result (RefusesState (Unit {0}) c.args.state.now) (λ e. e ≢ Memory) c.estimate_of.ensures.err c.estimate_of.ensures.needless) c.report.ensures

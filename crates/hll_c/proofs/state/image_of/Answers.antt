@@ -7,7 +7,7 @@ use Rattle.hll_sketch.specs.Value.{Sketch}
 use Rattle.hll_state.specs.Counter.{sketch_in}
 use Rattle.hll_state.proofs.States.{read_at}
 use Rattle.hll_c.specs.Answers.{IsImageOf, WithFields}
-use Rattle.hll_c.specs.Calls.{IsWidth, of_bits}
+use Rattle.hll_c.specs.Calls.{IsWidth}
 use Rattle.hll_c.specs.States.{IsOfState, RefusesState}
 use Rattle.hll_c.proofs.Answers.{made_with_fields}
 use Rattle.hll_c.proofs.States.{refuses_no_state, refuses_register, refuses_state_memory}
@@ -39,7 +39,7 @@ returns-clause-ok c =
     let Made = IsOfState c.args.width c.args.state.now in
     IfOk-weaker c.image_of_held.result _ (λ image. IsImageOf (WithFields Made) image.items)
     (λ image is. made_with_fields Made (record x { width = w }) image.items
-    (record { sketch = of.sketch; was = of.was; is = record { width = w; asked = of_bits c.in_ok-hll_type.ensures.ok; is = same } }) is)
+    (record { sketch = of.sketch; was = of.was; is = record { width_is = record { width = w; is = c.in_ok-hll_type.ensures.ok }; is = same } }) is)
     c.image_of_held.ensures.ok
 
 pub returns-clause-err : goal.returns-clause-err
