@@ -1,6 +1,6 @@
 -- SPDX-License-Identifier: Apache-2.0
 -- Images of coupons in order, and the union of two such images.
-use Rattle.std.proofs.Common.{◌≡◌, ◌≢◌, ℕ, zero, suc, ◌+◌, ◌-◌, ◌/◌, ◌%◌, ◌^◌, ◌<◌, ◌≤◌, [], ◌∷◌, ◌&&◌, true, false, nat_eq, List, length, take, drop, get_or, Option, Some, None, refl, sym, ap, subst, ◌∙◌, arith}
+use Rattle.std.proofs.Common.{◌≡◌, ◌≢◌, ℕ, suc, ◌+◌, ◌-◌, ◌/◌, ◌%◌, ◌^◌, ◌<◌, ◌≤◌, [], ◌∷◌, ◌&&◌, true, false, nat_eq, List, length, take, drop, get_or, Option, Some, None, refl, sym, ap, subst, ◌∙◌, arith}
 use Rattle.std.specs.FinSet.{union, len, len-empty}
 use Rattle.std.specs.Ordering.{nat_cmp}
 use Rattle.std.specs.List.Sorted.{IsStrictlyIncreasing}
@@ -22,6 +22,7 @@ use Rattle.hll_sketch.specs.Stage.{stage}
 use Rattle.hll_sketch.specs.MergedIn.{IsOfCoupons}
 use Rattle.hll_sketch.specs.Value.{Sketch, Content, coupons, registers, in_registers, pairs_in, pairs_of, is_empty, IsLgK, IsTableFor, IsLegal, IsLegalContent}
 use Rattle.hll_sketch.specs.Written.{coupon_image, Written}
+use Rattle.hll_sketch.proofs.BorrowedCoupons.{none_listed}
 use Rattle.hll_sketch.proofs.Images.{at}
 use Rattle.hll_sketch.proofs.LegalSketches.{legal_size}
 use Rattle.hll_sketch.proofs.MergedImages.{read_is_legal, one_read}
@@ -89,14 +90,10 @@ module _ (b order : List ℕ) (of : IsOfCoupons b order) where
   }
 
   -- its table
-  pub table_said : (h : Header) → h ≡ header_of b → AreBytes b → AreCoupons order → IsLgK h.lg_k × IsTableFor h.lg_k (length order) h.lg_arr × (1 ≤ length order)
+  pub table_said : (h : Header) → h ≡ header_of b → AreBytes b → AreCoupons order → IsLgK h.lg_k × IsTableFor h.lg_k (length order) h.lg_arr
   table_said h is are coupons_are =
       let legal : IsLegal (record { lg_k = h.lg_k; width = h.hll_type; content = coupons (set_of order) h.lg_arr }) = subst IsLegal (sketch_said h is) (read_is_legal b of.sketch are of.read) in
-      (legal.lg_k, subst (λ n. IsTableFor h.lg_k n h.lg_arr) coupons_are.distinct legal.content.1, positive (length order) (λ none. of.some (coupons_are.distinct ∙ none)))
-    where
-      positive : (n : ℕ) → (n ≡ 0 → ⊥) → 1 ≤ n
-      positive zero some = absurd (some refl)
-      positive (suc n) some = omega arith
+      (legal.lg_k, subst (λ n. IsTableFor h.lg_k n h.lg_arr) coupons_are.distinct legal.content.1)
 
   -- each sketch that it is read as has the width that its header says
   pub width_in_header : (h : Header) → h ≡ header_of b → (x : Sketch) → IsReadAs b x → x.width ≡ h.hll_type
@@ -109,7 +106,6 @@ module _ (b order : List ℕ) (of : IsOfCoupons b order) where
     read = of.read;
     lg_k = coupons_say.0 ∙ sym k_is;
     content = of.content ∙ ap (coupons (set_of order)) (coupons_say.1 ∙ sym size_is);
-    some = of.some;
     ascends = up;
   }
 
@@ -120,7 +116,6 @@ same_coupons b xs ys of same = record {
   read = of.read;
   size = of.size;
   content = of.content ∙ ap (λ S. coupons S of.size) (sym same);
-  some = λ none. of.some (sym (ap len same) ∙ none);
 }
 
 -- ---- the union
@@ -172,12 +167,20 @@ module _ (k p : ℕ) (xs ys bytes : List ℕ) (up : WritesAscending coupon_bytes
   pub none_of_both : stage k p n ≡ None → stage k p (len (union (set_of xs) (set_of ys))) ≡ None
   none_of_both none = ap (stage k p) (sym number) ∙ none
 
-module _ (k kl kr p q : ℕ) (left right xs ys : List ℕ) (l : IsInOrder left kl p xs) (r : IsInOrder right kr q ys) (at_k : kl ≡ k) where
+-- coupons in order that are none are those of an empty sketch
+empty_order : (b xs : List ℕ) (k size : ℕ) (of : IsInOrder b k size xs) → length xs ≡ 0 → is_empty of.sketch ≡ true
+empty_order b [] k size of none = ap (λ c. nat_eq (len (pairs_in c)) 0) of.content ∙ ap (λ n. nat_eq n 0) (len-empty nat_cmp)
+empty_order b (x ∷ xs) k size of none = absurd (omega (arith, none))
+
+module _ (k kl kr p q : ℕ) (left right xs ys : List ℕ) (l : IsInOrder left kl p xs) (r : IsInOrder right kr q ys) (at_k : kl ≡ k) (some : length xs ≢ 0) (others : length ys ≢ 0) where
+  some_of : (zs : List ℕ) → length zs ≢ 0 → len (set_of zs) ≢ 0
+  some_of zs has none = has (ap length (none_listed zs none))
+
   pub image_of_union : (width : HllType) (image : List ℕ) → IsLgK kl → IsImageOfBoth k width p xs ys image → IsImageOfUnion k width left right image
   image_of_union width image legal both =
       let U : Pairs = union (set_of xs) (set_of ys) in
       let same : merge k (merge k (empty_union k) l.sketch) r.sketch ≡ record { lg_k = k; width = Hll8; content = coupons U both.size_of_both } =
-      merged k l.sketch r.sketch (set_of xs) (set_of ys) p q (l.lg_k ∙ at_k) l.content r.content l.some r.some (Some both.size_of_both) both.held in
+      merged k l.sketch r.sketch (set_of xs) (set_of ys) p q (l.lg_k ∙ at_k) l.content r.content (some_of xs some) (some_of ys others) (Some both.size_of_both) both.held in
       record {
         bound_is = subst IsLgK at_k legal;
         left_sketch = l.sketch;
@@ -192,13 +195,20 @@ module _ (k kl kr p q : ℕ) (left right xs ys : List ℕ) (l : IsInOrder left k
   pub no_table : stage k p (len (union (set_of xs) (set_of ys))) ≡ None → HaveUnionInTable k left right → ⊥
   no_table none have =
       let full : merge k (merge k (empty_union k) l.sketch) r.sketch ≡ record { lg_k = k; width = Hll8; content = content_for k (union (set_of xs) (set_of ys)) None } =
-      merged k l.sketch r.sketch (set_of xs) (set_of ys) p q (l.lg_k ∙ at_k) l.content r.content l.some r.some None none in
+      merged k l.sketch r.sketch (set_of xs) (set_of ys) p q (l.lg_k ∙ at_k) l.content r.content (some_of xs some) (some_of ys others) None none in
       true≢false (sym (ap (λ (z : Sketch). in_registers z.content) full) ∙ (have.held l.sketch r.sketch l.read r.read).in_table)
 
 module _ (k kl kr p q : ℕ) (left right xs ys : List ℕ) (l : IsInOrder left kl p xs) (r : IsInOrder right kr q ys) where
   -- the first sketch is not at the bound
   pub other_bound : (kl ≡ k → ⊥) → HaveUnionInTable k left right → ⊥
   other_bound other have = other (sym l.lg_k ∙ (have.held l.sketch r.sketch l.read r.read).lg_k)
+
+  -- one of them has no coupons
+  pub none_first : length xs ≡ 0 → HaveUnionInTable k left right → ⊥
+  none_first none have = true≢false (sym (empty_order left xs kl p l none) ∙ (have.held l.sketch r.sketch l.read r.read).some)
+
+  pub none_second : length ys ≡ 0 → HaveUnionInTable k left right → ⊥
+  none_second none have = true≢false (sym (empty_order right ys kr q r none) ∙ (have.held l.sketch r.sketch l.read r.read).others)
 
   -- both images are read
   pub both_read : kl ≡ k → IsLgK kl → AreBothRead k left right

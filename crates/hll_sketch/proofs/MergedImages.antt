@@ -1,11 +1,13 @@
 -- SPDX-License-Identifier: Apache-2.0
 -- Images that are merged into a gadget without a copy: coupons into registers, and registers.
-use Rattle.std.proofs.Common.{arith, ◌≡◌, ℕ, ◌<◌, ◌==◌, true, false, cond, nat_eq, List, None, take, drop, refl, sym, ap, subst, ◌∙◌}
+use Rattle.std.proofs.Common.{arith, ◌≡◌, ℕ, ◌<◌, ◌==◌, true, false, cond, nat_eq, List, [], None, take, drop, inl, inr, refl, sym, ap, subst, ◌∙◌}
 use Rattle.std.specs.List.{list_all}
-use Rattle.std.specs.FinSet.{len}
-use Rattle.std.proofs.lemmas.Bool.{cond-false, ne_eqb}
+use Rattle.std.specs.FinSet.{len, len-empty}
+use Rattle.std.specs.Ordering.{nat_cmp}
+use Rattle.std.proofs.lemmas.Bool.{cases_Bool, cond-true, cond-false, eqb-true}
 use Rattle.std.proofs.lemmas.List.{take-append-drop}
 use Rattle.std.proofs.lemmas.List.Elements.{All-take}
+use Rattle.hll_coupons.specs.Coupons.{raw_coupons, AreCoupons}
 use Rattle.hll_registers.specs.Store.{Stored}
 use Rattle.hll_sketch.specs.Checks.{size_fault}
 use Rattle.hll_sketch.specs.Image.{stage_bits, AreBytes, HasHeader, IsReadAs}
@@ -15,6 +17,7 @@ use Rattle.hll_sketch.specs.MergedIn.{IsOfCoupons, IsOfRegisters, MergesIn, HasC
 use Rattle.hll_sketch.specs.Union.{UnionLayout, IsGadget, gadget_of, ContentNeedsMemory, MergeNeedsMemory}
 use Rattle.hll_sketch.specs.Updatable.{HasUpdatableCoupons}
 use Rattle.hll_sketch.specs.Value.{Sketch, registers, in_registers, is_empty, pairs_in, IsLegal}
+use Rattle.hll_sketch.proofs.BorrowedCoupons.{none_listed, no_coupons}
 use Rattle.hll_sketch.proofs.Emptiness.{zeros-empty}
 use Rattle.hll_sketch.proofs.Gadgets.{gadget_of_content}
 use Rattle.hll_sketch.proofs.Images.{one_image}
@@ -35,11 +38,12 @@ pub record MergesImage (bound : ℕ) (before after : Sketch) (image : List ℕ) 
   pub merged : after ≡ merge bound before sketch
 
 module _ (m : ℕ) (g y : Sketch) (b order : List ℕ) (is : IsGadget m g) (inside : in_registers g.content ≡ true) (of : IsOfCoupons b order) (raised : y ≡ add_in_turn g order) where
-  some : is_empty of.sketch ≡ false
-  some = ne_eqb (len (pairs_in of.sketch.content)) 0 (λ none. of.some (ap (λ c. len (pairs_in c)) (sym of.content) ∙ none))
+  -- no coupons change nothing
+  unchanged : is_empty of.sketch ≡ true → y ≡ g
+  unchanged none = raised ∙ ap (add_in_turn g) (none_listed order (ap (λ c. len (pairs_in c)) (sym of.content) ∙ eqb-true (len (pairs_in of.sketch.content)) 0 none))
 
-  as_content : y ≡ merge_content m g of.sketch of.sketch.content
-  as_content =
+  as_content : is_empty of.sketch ≡ false → y ≡ merge_content m g of.sketch of.sketch.content
+  as_content some =
       coupons_merged g of.sketch y order of.size (other_empty (is_empty g) g.lg_k of.sketch.lg_k (is.registers inside)) of.content some raised
       ∙ sym (ap (merge_content m g of.sketch) of.content)
 
@@ -48,12 +52,17 @@ module _ (m : ℕ) (g y : Sketch) (b order : List ℕ) (is : IsGadget m g) (insi
     sketch = of.sketch;
     read = of.read;
     legal = read_is_legal b of.sketch bytes of.read;
-    merged = as_content ∙ sym (cond-false (is_empty of.sketch) g (merge_content m g of.sketch of.sketch.content) some);
+    merged = elim (cases_Bool (is_empty of.sketch)) [
+      | inl none ↦ unchanged none ∙ sym (cond-true (is_empty of.sketch) g (merge_content m g of.sketch of.sketch.content) none)
+      | inr some ↦ as_content some ∙ sym (cond-false (is_empty of.sketch) g (merge_content m g of.sketch of.sketch.content) some)
+    ];
   }
 
   pub still_gadget : AreBytes b → IsLegal g → IsGadget m y
-  still_gadget bytes legal =
-      subst (IsGadget m) (sym as_content) (gadget_of_content m g of.sketch of.sketch.content refl some is legal (read_is_legal b of.sketch bytes of.read))
+  still_gadget bytes legal = elim (cases_Bool (is_empty of.sketch)) [
+    | inl none ↦ subst (IsGadget m) (sym (unchanged none)) is
+    | inr some ↦ subst (IsGadget m) (sym (as_content some)) (gadget_of_content m g of.sketch of.sketch.content refl some is legal (read_is_legal b of.sketch bytes of.read))
+  ]
 
 -- if the gadget of a union became such a merge, the image was merged into the union
 pub taken : (u v : UnionLayout) (b : List ℕ) → v.lg_max_k ≡ u.lg_max_k → MergesImage u.lg_max_k (gadget_of u) (gadget_of v) b → MergesIn u v b
@@ -65,20 +74,33 @@ taken u v b bound is = record {
   canonical = λ xs join canonical. joined_more u v is.sketch xs bound is.merged is.legal join canonical;
 }
 
+-- ---- images without pairs
+
+-- an image of a sketch without pairs changes nothing
+empty_taken : (u : UnionLayout) (b : List ℕ) (x : Sketch) → IsReadAs b x → is_empty x ≡ true → AreBytes b → MergesIn u u b
+empty_taken u b x read none bytes = taken u u b refl (record {
+  sketch = x;
+  read = read;
+  legal = read_is_legal b x bytes read;
+  merged = sym (ap (λ e. cond e (gadget_of u) (merge_content u.lg_max_k (gadget_of u) x x.content)) none);
+})
+
+-- nor does one whose number of coupons is 0
+pub no_coupons_taken : (u : UnionLayout) (b c : List ℕ) (n : ℕ) → n ≡ 0 → (AreCoupons (raw_coupons n c) → IsOfCoupons b (raw_coupons n c)) → AreBytes b → MergesIn u u b
+no_coupons_taken u b c n none of bytes =
+    let said : IsOfCoupons b [] = subst (λ m. AreCoupons (raw_coupons m c) → IsOfCoupons b (raw_coupons m c)) none of no_coupons in
+    empty_taken u b said.sketch said.read (ap (λ s. nat_eq (len (pairs_in s)) 0) said.content ∙ ap (λ m. nat_eq m 0) (len-empty nat_cmp)) bytes
+
 -- ---- registers
 
 -- registers that are all 0 have no pairs
+
 pub no_registers : (b : List ℕ) (x : Stored) (of : IsOfRegisters b x) → is_empty of.sketch ≡ list_all (λ v. v == 0) x.registers
 no_registers b x of = ap (λ c. nat_eq (len (pairs_in c)) 0) of.content ∙ sym (zeros-empty x.registers)
 
 -- such an image changes nothing
 pub nothing_taken : (u : UnionLayout) (b : List ℕ) (x : Stored) (of : IsOfRegisters b x) → is_empty of.sketch ≡ true → AreBytes b → MergesIn u u b
-nothing_taken u b x of none bytes = taken u u b refl (record {
-  sketch = of.sketch;
-  read = of.read;
-  legal = read_is_legal b of.sketch bytes of.read;
-  merged = sym (ap (λ e. cond e (gadget_of u) (merge_content u.lg_max_k (gadget_of u) of.sketch of.sketch.content)) none);
-})
+nothing_taken u b x of none bytes = empty_taken u b of.sketch of.read none bytes
 
 -- other registers are merged
 pub registers_taken : (u v : UnionLayout) (b : List ℕ) (x : Stored) (of : IsOfRegisters b x) → is_empty of.sketch ≡ false → v.lg_max_k ≡ u.lg_max_k →

@@ -1,7 +1,6 @@
 -- SPDX-License-Identifier: Apache-2.0
 -- Images of coupons in the buckets of a table.
 use Rattle.std.proofs.Common.{◌≡◌, ℕ, ◌+◌, ◌*◌, ◌^◌, ◌<◌, ◌≤◌, false, cond, eqb, List, length, take, drop, sym, ap, subst, ◌∙◌, arith}
-use Rattle.std.specs.FinSet.{len}
 use Rattle.std.proofs.lemmas.Bool.{false_from_ne_true}
 use Rattle.std.proofs.lemmas.Bool.Decides.{Decides-eqb, Decides-ltb}
 use Rattle.std.proofs.lemmas.List.{length-drop}
@@ -22,10 +21,6 @@ use Rattle.hll_sketch.proofs.FrontImages.{list_is_read, set_is_read}
 use Rattle.hll_sketch.proofs.ListImages.{list_image}
 use Rattle.hll_sketch.proofs.SizedImages.{passing}
 
--- a number of coupons that isn't 0 gives a set that isn't empty
-some_placed : (n : ℕ) (buckets : List ℕ) → 1 ≤ n → HoldCoupons n buckets → len (set_of (coupons_in buckets)) ≡ 0 → ⊥
-some_placed n buckets some hold none = omega (arith, some, hold.are.distinct, hold.number, none)
-
 -- the coupons in the eight buckets of an updatable list, in the number that it says, are those that it is read as
 pub list_of_buckets : (b : List ℕ) (n : ℕ) → HasHeader b 0 → table_byte b ≡ 3 → n ≡ state_byte b → is_flagged 4 b ≡ false → is_flagged 8 b ≡ false →
     1 ≤ n → n ≤ 8 → 32 ≤ length (drop 8 b) → HoldCoupons n (raw_coupons 8 (drop 8 b)) → IsOfCoupons b (coupons_in (raw_coupons 8 (drop 8 b)))
@@ -40,14 +35,13 @@ list_of_buckets b n h table count filled loose some few there hold =
       read = list_is_read b (list_image b h table here);
       size = 3;
       content = λ i. coupons (set_of (list_coupons (sym same i) (drop 8 b))) 3;
-      some = some_placed n (raw_coupons 8 (drop 8 b)) some hold;
     }
 
 -- and the same for those in the buckets of an updatable set
 pub set_of_buckets : (b : List ℕ) (n : ℕ) → HasHeader b 1 → HasSetTable b → 4 ≤ length (drop 8 b) → n ≡ set_count (drop 8 b) → is_flagged 8 b ≡ false →
-    1 ≤ n → n < 2 ^ table_byte b → 4 * 2 ^ table_byte b ≤ length (drop 4 (drop 8 b)) → HoldCoupons n (raw_coupons (2 ^ table_byte b) (drop 4 (drop 8 b))) →
+    n < 2 ^ table_byte b → 4 * 2 ^ table_byte b ≤ length (drop 4 (drop 8 b)) → HoldCoupons n (raw_coupons (2 ^ table_byte b) (drop 4 (drop 8 b))) →
     IsOfCoupons b (coupons_in (raw_coupons (2 ^ table_byte b) (drop 4 (drop 8 b))))
-set_of_buckets b n h table whole count loose some room there hold =
+set_of_buckets b n h table whole count loose room there hold =
     let p : List ℕ = drop 8 b in
     let s : SetShape = shape_of_set (table_byte b) false in
     let same : s ≡ set_shape b = λ i. shape_of_set (table_byte b) (sym loose i) in
@@ -60,7 +54,6 @@ set_of_buckets b n h table whole count loose some room there hold =
       read = set_is_read b h table here;
       size = table_byte b;
       content = λ i. coupons (set_of (set_coupons (sym same i) p)) (table_byte b);
-      some = some_placed n (raw_coupons (2 ^ table_byte b) (drop 4 p)) some hold;
     }
 
 -- ---- what such images have

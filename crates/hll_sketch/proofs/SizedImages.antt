@@ -1,21 +1,21 @@
 -- SPDX-License-Identifier: Apache-2.0
 -- Images whose header, counts and length are right.
-use Rattle.std.proofs.Common.{arith, ◌≡◌, ℕ, ◌+◌, ◌*◌, ◌^◌, ◌<◌, ◌≤◌, Bool, true, false, cond, eqb, List, [], ◌∷◌, ◌++◌, length, drop, Option, Some, None, refl, sym, ap, ◌∙◌}
+use Rattle.std.proofs.Common.{arith, ◌≡◌, ℕ, ◌+◌, ◌*◌, ◌^◌, ◌<◌, ◌≤◌, Bool, true, false, cond, eqb, List, [], ◌∷◌, ◌++◌, length, drop, Option, Some, None, inl, inr, refl, sym, ap, subst, ◌∙◌}
 use Rattle.std.specs.Bool.{Decides}
 use Rattle.std.specs.Prelude.{IfNone, IfErr, Result, Ok, Err}
-use Rattle.std.proofs.lemmas.Bool.{false_from_ne_true}
+use Rattle.std.proofs.lemmas.Bool.{cases_Bool}
 use Rattle.std.proofs.lemmas.List.{length-drop}
 use Rattle.hll_base.specs.declared.error.Reason.{Reason}
-use Rattle.hll_coupons.specs.Coupons.{raw_coupons}
-use Rattle.hll_coupons.specs.Payload.{HasListCount, shape_of_list, shape_of_set, list_buckets, set_count, set_buckets}
+use Rattle.hll_base.specs.declared.error.Reason.TheVariants as reasons
+use Rattle.hll_coupons.specs.Coupons.{raw_coupons, AreCoupons}
+use Rattle.hll_coupons.specs.Payload.{set_coupons, coupon, HasListCount, shape_of_list, shape_of_set, list_buckets, set_count, set_buckets}
 use Rattle.hll_sketch.specs.Image.{table_byte, state_byte, is_flagged, HasHeader, HasSetTable, list_shape, set_shape, IsReadAs}
-use Rattle.hll_sketch.specs.Checks.{Check, first_failing, header_checks, checks_after, list_checks, set_checks, size_fault}
+use Rattle.hll_sketch.specs.Checks.{Check, first_failing, header_checks, checks_after, list_checks, set_checks, first_fault, size_fault}
 use Rattle.hll_sketch.specs.MergedIn.{raw_coupons_in, HasCompactCoupons}
 use Rattle.hll_sketch.specs.Value.{Sketch}
-use Rattle.hll_coupons.proofs.Merging.{length-raw_coupons}
 use Rattle.hll_sketch.proofs.Checks.{Decides-leb, Decides-list_count, Decides-set_table}
 use Rattle.std.proofs.lemmas.Bool.Decides.{Decides-eqb, Decides-ltb}
-use Rattle.hll_sketch.proofs.FirstFailing.{none_before, after_list, after_set, size_after}
+use Rattle.hll_sketch.proofs.FirstFailing.{set_first, none_before, after_list, after_set, size_after}
 use Rattle.hll_sketch.proofs.FirstFaults.{faultless_is_image}
 
 -- if a check doesn't fail, it passes, and none of the checks after it fails
@@ -67,28 +67,35 @@ set_size b h none =
 
 -- ---- compact coupons
 
--- the raw coupons in a list and in a set
-abbrev raw_coupons_by : List ℕ → ℕ → List ℕ
-raw_coupons_by b stage = cond (eqb stage 0) (raw_coupons (state_byte b) (drop 8 b)) (raw_coupons (set_count (drop 8 b)) (drop 4 (drop 8 b)))
-
 -- the raw coupons of a list are there
-pub list_there : (b : List ℕ) → HasHeader b 0 → HasCompactCoupons b → (1 ≤ state_byte b) × (4 * state_byte b ≤ length (drop 8 b))
+pub list_there : (b : List ℕ) → HasHeader b 0 → HasCompactCoupons b → HasListCount (list_shape b) × (4 * state_byte b ≤ length (drop 8 b))
 list_there b h up =
     let size : ListSize b = list_size b h up.sized in
-    let after : raw_coupons_in b ≡ raw_coupons (state_byte b) (drop 8 b) = ap (raw_coupons_by b) h.stage_is in
-    let some : 1 ≤ state_byte b = omega (arith, up.some, ap length after, length-raw_coupons (state_byte b) (drop 8 b)) in
-    let filled : is_flagged 4 b ≡ false = false_from_ne_true (is_flagged 4 b) (λ e. omega (arith, size.count.flag.0 e, some)) in
-    let buckets : list_buckets (list_shape b) ≡ state_byte b = λ i. list_buckets (shape_of_list 3 (state_byte b) (filled i) (up.compact i)) in
-    (some, omega (arith, size.there, buckets, length-drop 8 b, h.whole))
+    let there : 4 * state_byte b ≤ length (drop 8 b) = elim (cases_Bool (is_flagged 4 b)) [
+      | inl none ↦ omega (arith, size.count.flag.0 none)
+      | inr filled ↦
+          let buckets : list_buckets (list_shape b) ≡ state_byte b = λ i. list_buckets (shape_of_list 3 (state_byte b) (filled i) (up.compact i)) in
+          omega (arith, size.there, buckets, length-drop 8 b, h.whole)
+    ] in
+    (size.count, there)
 
 -- and those of a set
-pub set_there : (b : List ℕ) → HasHeader b 1 → HasCompactCoupons b → (1 ≤ set_count (drop 8 b)) × (4 * set_count (drop 8 b) ≤ length (drop 4 (drop 8 b)))
+pub set_there : (b : List ℕ) → HasHeader b 1 → HasCompactCoupons b → 4 * set_count (drop 8 b) ≤ length (drop 4 (drop 8 b))
 set_there b h up =
     let size : SetSize b = set_size b h up.sized in
-    let after : raw_coupons_in b ≡ raw_coupons (set_count (drop 8 b)) (drop 4 (drop 8 b)) = ap (raw_coupons_by b) h.stage_is in
-    let some : 1 ≤ set_count (drop 8 b) = omega (arith, up.some, ap length after, length-raw_coupons (set_count (drop 8 b)) (drop 4 (drop 8 b))) in
     let buckets : set_buckets (set_shape b) (drop 8 b) ≡ set_count (drop 8 b) = λ i. set_buckets (shape_of_set (table_byte b) (up.compact i)) (drop 8 b) in
-    (some, omega (arith, size.there, size.whole, buckets, length-drop 8 b, length-drop 4 (drop 8 b)))
+    omega (arith, size.there, size.whole, buckets, length-drop 8 b, length-drop 4 (drop 8 b))
+
+-- if the raw coupons of a compact set are no coupons, that is its first fault
+pub faulty_set : (b xs : List ℕ) → HasHeader b 1 → size_fault b ≡ None → is_flagged 8 b ≡ true → xs ≡ raw_coupons_in b → (AreCoupons xs → ⊥) → first_fault b ≡ Some reasons.Coupon
+faulty_set b xs h sized compact same faulty =
+    let size : SetSize b = set_size b h sized in
+    let p : List ℕ = drop 8 b in
+    let after : raw_coupons_in b ≡ raw_coupons (set_count p) (drop 4 p) = ap (λ s. cond (eqb s 0) (raw_coupons (state_byte b) p) (raw_coupons (set_count p) (drop 4 p))) h.stage_is in
+    let order : set_coupons (set_shape b) p ≡ raw_coupons (set_count p) (drop 4 p) = λ i. set_coupons (shape_of_set (table_byte b) (compact i)) p in
+    set_first b reasons.Coupon h size.table
+    (coupon (record { whole = omega (arith, size.whole, length-drop 8 b); low = size.count }) (omega (arith, size.there, size.whole, length-drop 8 b)) (λ are. faulty (subst AreCoupons (order ∙ sym (same ∙ after)) are)))
+    (λ e. cc)
 
 -- what follows if a result is None
 pub IfNone_then : {X : Type 0} (r : Option X) {P Q : Type 0} → IfNone r P → (P → Q) → IfNone r Q

@@ -4,7 +4,7 @@ use Rattle.std.proofs.Common.{◌≡◌, ℕ, ◌^◌, ◌≤◌, ◌<◌, true,
 use Rattle.std.specs.Ordering.{nat_cmp}
 use Rattle.std.specs.Cmp.{nat_cmp_total}
 use Rattle.std.specs.FinSet.{empty, union, len, len-empty, empty_of_len, contains, contains-union, contains-from_list_nat, contains-empty}
-use Rattle.std.proofs.lemmas.Bool.{cases_Bool, eqb-true, ne_eqb, true≢false}
+use Rattle.std.proofs.lemmas.Bool.{cases_Bool, cond-true, eqb-true, true≢false}
 use Rattle.std.proofs.lemmas.List.{append-nil, length-append}
 use Rattle.std.proofs.lemmas.List.Elements.{All-from_get_or}
 use Rattle.std.proofs.lemmas.List.Folds.{list_any-append}
@@ -29,6 +29,7 @@ use Rattle.hll_sketch.specs.Union.{IsGadget}
 use Rattle.hll_sketch.specs.Layout.{sketch_of}
 use Rattle.hll_sketch.specs.Waiting.{WaitingUnion, whole_gadget, with_coupons, MayWait}
 use Rattle.hll_sketch.proofs.Adding.{add_again, merge_of_some}
+use Rattle.hll_sketch.proofs.BorrowedCoupons.{none_listed}
 use Rattle.hll_sketch.proofs.Gadgets.{gadget_with, false_unless}
 use Rattle.hll_sketch.proofs.LegalImages.{ArePairs-set_of}
 use Rattle.hll_sketch.proofs.MergedImages.{read_is_legal}
@@ -147,12 +148,17 @@ module _ (b order : List ℕ) (of : IsOfCoupons b order) (are : AreCoupons order
         omega (arith, most, set.2, are.distinct)
   ]
 
-  some_in_image : is_empty of.sketch ≡ false
-  some_in_image = ne_eqb (len (pairs_in of.sketch.content)) 0 (λ none. of.some (ap (λ c. len (pairs_in c)) (sym of.content) ∙ none))
+  none_in_image : is_empty of.sketch ≡ true → order ≡ []
+  none_in_image none = none_listed order (ap (λ c. len (pairs_in c)) (sym of.content) ∙ eqb-true (len (pairs_in of.sketch.content)) 0 none)
 
   pub merged_fields : (m : ℕ) (g : Sketch) → IsGadget m g → IsLegal g → in_registers g.content ≡ false → is_empty g ≡ false → (W : List ℕ) → All IsPair W
       → with_coupons g (W ++ order) ≡ merge m (with_coupons g W) of.sketch
-  merged_fields m g gadget legal table some W pairs = merged_waiting m g gadget legal table some of.sketch W order of.size pairs of.content some_in_image
+  merged_fields m g gadget legal table some W pairs = elim (cases_Bool (is_empty of.sketch)) [
+    | inl none ↦
+        let h : Sketch = with_coupons g W in
+        ap (λ xs. with_coupons g (W ++ xs)) (none_in_image none) ∙ ap (with_coupons g) (append-nil W) ∙ sym (cond-true (is_empty of.sketch) h (merge_content m h of.sketch of.sketch.content) none)
+    | inr others ↦ merged_waiting m g gadget legal table some of.sketch W order of.size pairs of.content others
+  ]
 
 -- ---- unions
 

@@ -1,6 +1,6 @@
 -- SPDX-License-Identifier: Apache-2.0
 -- Images of coupons, and the image of their union (docs/MODEL.md, "Written images").
-use Rattle.std.specs.Prelude.{◌≡◌, ◌≢◌, ℕ, ◌⊎◌, false, List, Some}
+use Rattle.std.specs.Prelude.{◌≡◌, ℕ, ◌⊎◌, false, List, Some}
 use Rattle.std.specs.FinSet.{len, union}
 use Rattle.std.specs.List.Sorted.{IsStrictlyIncreasing}
 use Rattle.hll_base.specs.declared.hll_type.HllType.{HllType}
@@ -12,17 +12,15 @@ use Rattle.hll_sketch.specs.Merging.{merge, empty_union}
 use Rattle.hll_sketch.specs.MergedIn.{HasCompactCoupons}
 use Rattle.hll_sketch.specs.Stage.{stage}
 use Rattle.hll_sketch.specs.Updatable.{HasUpdatableCoupons}
-use Rattle.hll_sketch.specs.Value.{Sketch, coupons, in_registers, IsLgK}
+use Rattle.hll_sketch.specs.Value.{Sketch, coupons, in_registers, is_empty, IsLgK}
 use Rattle.hll_sketch.specs.Written.{Written, coupon_image}
 
--- the bytes are read as a sketch of these coupons, at least one, at an lg_k and in a table of 2^size buckets; and the list of
--- them ascends
+-- the bytes are read as a sketch of these coupons, at an lg_k and in a table of 2^size buckets; and the list of them ascends
 pub record IsInOrder (b : List ℕ) (k size : ℕ) (order : List ℕ) : Type 0 where
   pub sketch : Sketch
   pub read : IsReadAs b sketch
   pub lg_k : sketch.lg_k ≡ k
   pub content : sketch.content ≡ coupons (set_of order) size
-  pub some : len (set_of order) ≢ 0
   pub ascends : IsStrictlyIncreasing order
 
 -- the sketch has this lg_k and width, and this number of coupons in a table of 2^size buckets
@@ -40,12 +38,14 @@ pub record IsImageOfTable (b : List ℕ) (k : ℕ) (width : HllType) (size count
   pub is : IsTableOf k width size count sketch
 
 -- The bytes are an image of coupons for which one pass shows that they are coupons: it is compact, and they ascend or are at
--- most 128; or it is updatable, with 1 to 128 coupons.
+-- most 128 or none; or it is updatable, with 1 to 128 coupons.
 abbrev pub HasEvidentCoupons : List ℕ → Type 0
 HasEvidentCoupons b = HasCompactCoupons b ⊎ HasUpdatableCoupons b
 
--- the first sketch is at the bound of a union, and the union of both is not in registers
+-- both sketches have coupons, the first is at the bound of a union, and the union of both is not in registers
 pub record HasUnionInTable (bound : ℕ) (x y : Sketch) : Type 0 where
+  pub some : is_empty x ≡ false
+  pub others : is_empty y ≡ false
   pub lg_k : x.lg_k ≡ bound
   pub in_table : in_registers (merge bound (merge bound (empty_union bound) x) y).content ≡ false
 

@@ -1,7 +1,6 @@
 -- SPDX-License-Identifier: Apache-2.0
 -- Images that are merged into a union (docs/MODEL.md, "Merging").
-use Rattle.std.specs.Prelude.{◌≡◌, ℕ, ◌<◌, ◌≤◌, ◌==◌, if◌then◌else◌, true, List, [], ◌∷◌, ◌++◌, length, drop, None}
-use Rattle.std.specs.FinSet.{len}
+use Rattle.std.specs.Prelude.{◌≡◌, ℕ, ◌<◌, ◌==◌, if◌then◌else◌, true, List, [], ◌∷◌, ◌++◌, drop, None}
 use Rattle.hll_coupons.specs.Coupons.{raw_coupons}
 use Rattle.hll_coupons.specs.Pair.{set_of}
 use Rattle.hll_coupons.specs.Payload.{set_count}
@@ -26,13 +25,12 @@ pub record MergesIn (before after : UnionLayout) (image : List ℕ) : Type 0 whe
   pub bound : after.lg_max_k ≡ before.lg_max_k
   pub canonical : (xs : List Sketch) → IsMergeOf xs before → IsCanonicalCleared sketch → IsMergeOf (xs ++ sketch ∷ []) after
 
--- the bytes are read as a sketch of these coupons, at least one, in a list or a set
+-- the bytes are read as a sketch of these coupons in a list or a set
 pub record IsOfCoupons (bytes order : List ℕ) : Type 0 where
   pub sketch : Sketch
   pub read : IsReadAs bytes sketch
   pub size : ℕ
   pub content : sketch.content ≡ coupons (set_of order) size
-  pub some : len (set_of order) ≡ 0 → ⊥
 
 -- the bytes are read as a sketch of these registers with their estimate state
 pub record IsOfRegisters (bytes : List ℕ) (x : Stored) : Type 0 where
@@ -49,13 +47,12 @@ pub record IsOfRegisters (bytes : List ℕ) (x : Stored) : Type 0 where
 abbrev pub raw_coupons_in : List ℕ → List ℕ
 raw_coupons_in b = if stage_bits b == 0 then raw_coupons (state_byte b) (drop 8 b) else raw_coupons (set_count (drop 8 b)) (drop 4 (drop 8 b))
 
--- the bytes have the header, the counts and the length of a compact list or set with at least one coupon, and one pass shows
--- that its raw coupons are coupons
+-- the bytes have the header, the counts and the length of a compact list or set, and one pass shows that its raw coupons, if
+-- there are any, are coupons
 pub record HasCompactCoupons (b : List ℕ) : Type 0 where
   pub stage : stage_bits b < 2
   pub sized : size_fault b ≡ None
   pub compact : is_flagged 8 b ≡ true
-  pub some : 1 ≤ length (raw_coupons_in b)
   pub evident : AreEvidentlyCoupons (raw_coupons_in b)
 
 -- the header is that of registers, and if they are 4-bit registers, the count of their exceptions is 0

@@ -4,7 +4,7 @@
 //! in another order are sorted first.
 ghost use Rattle.std.specs.Prelude.{◌≡◌, ℕ, List, ◌≤◌, ◌<◌, true, None, IfSome, IfNone, IfOk, IfErr, OnErr, length};
 ghost use Rattle.std.specs.FinSet.{len, union};
-ghost use Rattle.std.specs.List.Sorted.{IsStrictlyIncreasing};
+ghost use Rattle.std.specs.List.Sorted.{IsPermutation, IsStrictlyIncreasing};
 ghost use Rattle.hll_base.specs.declared.error.Reason.TheVariants.{Memory};
 ghost use Rattle.hll_coupons.specs.Coupons.{coupon_bytes, raw_coupons};
 ghost use Rattle.hll_coupons.specs.Pair.{set_of};
@@ -52,8 +52,8 @@ pub struct ImageOfCoupons {
     pub count: usize,
 }
 
-/// Returns what an image of coupons says, if it is compact, has coupons, and they ascend or are at most 128. Returns `None` for
-/// other images.
+/// Returns what an image of coupons says, if it is compact, and they ascend or are at most 128. There may be none. Returns
+/// `None` for other images.
 pub fn image_of_coupons(bytes: &[u8]) -> Option<ImageOfCoupons>
     ensures some { IfSome result (λ i. IsImageOfTable bytes.now i.lg_k i.hll_type i.lg_size i.count) }
     ensures none { IfNone result (HasCompactCoupons bytes.now → ⊥) }
@@ -74,7 +74,7 @@ pub fn image_of_coupons(bytes: &[u8]) -> Option<ImageOfCoupons>
 ///
 /// Returns `None` unless all of these hold; then a union has to merge the images:
 ///
-/// - each image is compact, and its coupons ascend or are at most 128, or it is updatable and has 1 to 128 coupons;
+/// - each image is compact, has coupons, and they ascend or are at most 128, or it is updatable and has 1 to 128 coupons;
 /// - the first image is at `lg_max_k`, the bound of the union;
 /// - a table at that `lg_k` holds the coupons of both.
 ///
@@ -129,7 +129,7 @@ fn union_of_sorted_images<A: Allocator + Clone>(
 }
 
 /// Returns the image, at a width, of the union of two images with their coupons in ascending order. Returns `None` if the first
-/// image is not at `lg_max_k`, the bound of the union, or if no table holds the coupons of both.
+/// image is not at `lg_max_k`, the bound of the union, if one of them has no coupons, or if no table holds the coupons of both.
 ///
 /// Allocates four bytes for each coupon of both images, and then the image. Fails with `Memory`, only if the first image is at
 /// the bound.
@@ -151,6 +151,10 @@ fn union_in_order<A: Allocator + Clone>(
     ensures err { IfErr result (λ e. e ≡ Memory) }
 {
     if left.lg_k != lg_max_k {
+        return Ok(None);
+    }
+    // (without coupons on one side, the union is the other side, perhaps at another size of the table)
+    if left.raw_coupons.count == 0 || right.raw_coupons.count == 0 {
         return Ok(None);
     }
     image_of_both(
@@ -191,8 +195,9 @@ fn image_of_both<A: Allocator + Clone>(
     }
 }
 
-/// Returns the image of the sketch of an image of coupons with more coupons added, without making a table. Sorts the raw
-/// coupons.
+/// Returns the image of the sketch of an image of coupons with more coupons added, without making a table.
+///
+/// The raw coupons may be in another order afterwards, whatever the call returns; they are the same ones.
 ///
 /// There are 1 to 128 raw coupons, none with the value 0. Returns `None` unless all of these hold; then a sketch has to add the
 /// coupons:
@@ -210,6 +215,7 @@ pub fn coupon_image_with<A: Allocator + Clone>(
     requires some { 1 ≤ length raw_coupons.old }
     requires few { length raw_coupons.old ≤ 128 }
     ensures some { IfOk result (λ found. IfSome found (λ written. IsImageWith raw_coupons.old image.now written.items)) }
+    ensures order { IsPermutation raw_coupons.old raw_coupons.new }
     ensures read { OnErr result ((x : Sketch) × IsReadAs image.now x) }
     ensures err { IfErr result (λ e. e ≡ Memory) }
 {
@@ -235,6 +241,7 @@ fn sorted_image_with<A: Allocator + Clone>(
     requires some { 1 ≤ length raw_coupons.old }
     requires few { length raw_coupons.old ≤ 128 }
     ensures some { IfOk result (λ found. IfSome found (λ written. IsImageWith raw_coupons.old image.now written.items)) }
+    ensures order { IsPermutation raw_coupons.old raw_coupons.new }
     ensures read { OnErr result ((x : Sketch) × IsReadAs image.now x) }
     ensures err { IfErr result (λ e. e ≡ Memory) }
 {
@@ -258,6 +265,7 @@ fn ordered_image_with<A: Allocator + Clone>(
     requires lg_k { IsLgK image.lg_k }
     requires few { length more.old ≤ 128 }
     ensures some { IfOk result (λ found. IfSome found (λ written. (ys : List ℕ) × (set_of ys ≡ set_of more.old) × IsImageOfBoth image.entry.lg_k image.entry.hll_type image.entry.lg_size (raw_coupons image.entry.raw_coupons.count image.entry.raw_coupons.bytes.now) ys written.items)) }
+    ensures order { IsPermutation more.old more.new }
     ensures err { IfErr result (λ e. e ≡ Memory) }
 {
     let mut room = [0; ROOM];
@@ -350,7 +358,7 @@ pub fn says_registers(bytes: &[u8]) -> bool
     }
 }
 
-/// Returns what a compact image says, if its coupons ascend and there are some. `sorted_image` reads the other images.
+/// Returns what a compact image says, if its coupons ascend. `sorted_image` reads the other images.
 fn ascending_image(bytes: &[u8]) -> Option<OrderedImage<'_>>
     ensures some { IfSome result (λ a. IsInOrder bytes.now a.lg_k a.lg_size (raw_coupons a.raw_coupons.count a.raw_coupons.bytes.now)) }
     ensures width { IfSome result (λ a. (x : Sketch) → IsReadAs bytes.now x → x.width ≡ a.hll_type) }

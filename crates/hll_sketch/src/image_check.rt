@@ -22,8 +22,8 @@ impl<A: Allocator + Clone> HllSketch<A> {
     /// Checks whether bytes begin with an image. Bytes after the image are not read.
     ///
     /// Fails as `deserialize` does, with the reason of the first check that the bytes fail, or else with `Memory`. Allocates
-    /// only once all bytes that the image needs are there: a table for coupons, except for 1 to 128 coupons or for coupons that
-    /// ascend in a compact image; and a map for the exceptions of 4-bit registers, if there are any.
+    /// only once all bytes that the image needs are there: a table for coupons, except for at most 128 or ascending ones in a
+    /// compact image and for 1 to 128 in an updatable one; and a map for the exceptions of 4-bit registers, if there are any.
     pub fn check(alloc: A, bytes: &[u8]) -> Result<(), Error>
         ensures ok { OnOk result ((x : Sketch) × IsReadAs bytes.now x) }
         ensures err { IfErr result (IsRefusal bytes.now) }

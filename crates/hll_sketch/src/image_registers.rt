@@ -37,7 +37,7 @@ pub struct ImageRegisters<A: Allocator = Global> {
 ///
 /// Fails with the reason of the first check that the image fails, or else with `Memory`. Allocates only once all bytes that the
 /// image needs are there: one byte for each register; a map for the exceptions of 4-bit registers; and a table for coupons,
-/// except for 1 to 128 coupons or for coupons that ascend in a compact image.
+/// except for at most 128 or ascending ones in a compact image and for 1 to 128 in an updatable one.
 #[inline(never)]
 pub fn registers_of_image<A: Allocator + Clone>(
     alloc: A,

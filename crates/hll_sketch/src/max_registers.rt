@@ -41,8 +41,8 @@ use std::alloc::Allocator;
 /// All checks are made before the merge.
 ///
 /// Fails with the reason of the first check that the image fails, or with `Memory`, and then changes nothing. Allocates a map
-/// for the exceptions of 4-bit registers, if there are any, and a table for coupons, except for 1 to 128 coupons or for coupons
-/// that ascend in a compact image.
+/// for the exceptions of 4-bit registers, if there are any, and a table for coupons, except for at most 128 or ascending ones in a
+/// compact image and for 1 to 128 in an updatable one.
 pub fn merge_image<A: Allocator + Clone>(
     alloc: A,
     registers: &mut [u8],

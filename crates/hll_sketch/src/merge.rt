@@ -22,7 +22,7 @@ ghost use Rattle.hll_sketch.specs.Value.{Sketch, IsLegal, IsLgK, coupons, in_reg
 
 use crate::header::{Header, Stage};
 use crate::mode::Mode;
-use crate::raw_coupons::{RawCoupons, compact_coupons};
+use crate::raw_coupons::{RawCoupons, compact_coupons, counted_coupons};
 use crate::raw_registers::with_registers;
 use crate::read_image::read_sketch;
 use crate::register_folds::eight_bits_of;
@@ -182,8 +182,8 @@ impl<A: Allocator + Clone> HllUnion<A> {
     }
 
     /// Merges the sketch of an image, as `update` does. Bytes after the image are ignored. No table is made of coupons that are
-    /// added to registers, if they are at most 128, or ascend in a compact image, as in images that this library writes.
-    /// Registers are not copied.
+    /// added to registers, if they are at most 128, or ascend in a compact image, as in images that this library writes; nor for a
+    /// compact image without coupons. Registers are not copied.
     ///
     /// Fails with the reason of the first check that the bytes fail (docs/FORMAT.md, "Order of checks"), or with `Memory`, and
     /// then changes nothing, not even buckets. Allocates a table for other coupons, only once all bytes that the image needs
@@ -225,7 +225,7 @@ impl<A: Allocator + Clone> HllUnion<A> {
         ensures err { IfErr result (λ e. (e ≡ Memory) ⊎ (first_fault image.now ≡ Some e)) }
     {
         if !self.gadget.in_registers() {
-            return self.merge_table_of_image(image, header);
+            return self.merge_into_coupons(image, header);
         }
         match compact_coupons(image, header) {
             Some(coupons) => {
@@ -259,6 +259,26 @@ impl<A: Allocator + Clone> HllUnion<A> {
             }
             None => self.merge_table_of_image(image, header),
         }
+    }
+
+    /// Merges the sketch of a list or a set into a gadget that has coupons or is empty, as `update_with_image` does. No table is
+    /// made for a compact image without coupons.
+    fn merge_into_coupons(&mut self, image: &[u8], header: Header) -> Result<(), Error>
+        requires has { HasHeader image.now (stage_bits image.now) }
+        requires stage { stage_bits image.now < 2 }
+        requires header { header ≡ header_of image.now }
+        requires outside { in_registers (gadget_of self.old).content ≡ false }
+        ensures ok { OnOk result (MergesIn self.old self.new image.now) }
+        ensures unchanged { OnErr result (self.new ≡ self.old) }
+        ensures needed { IfErr result (λ e. e ≡ Memory → ImageNeedsMemory (gadget_of self.old) image.now) }
+        ensures err { IfErr result (λ e. (e ≡ Memory) ⊎ (first_fault image.now ≡ Some e)) }
+    {
+        if let Some(coupons) = counted_coupons(image, header) {
+            if coupons.count == 0 {
+                return Ok(());
+            }
+        }
+        self.merge_table_of_image(image, header)
     }
 
     /// Merges the sketch of a list or a set, which is read into a table, as `update_with_image` does.

@@ -1,7 +1,7 @@
 // SPDX-License-Identifier: Apache-2.0
 //! The coupons of a compact image, borrowed from its bytes: coupons that ascend, as this library writes them, or few coupons in
 //! any order. One pass over them shows that they are distinct, without a table or a copy.
-ghost use Rattle.std.specs.Prelude.{◌≡◌, ◌*◌, ◌^◌, ◌-◌, ◌<◌, ◌≤◌, ◌↔◌, [], ◌∷◌, true, false, nat_eq, IsTrue, IfSome, IfNone, OnSome, length, map};
+ghost use Rattle.std.specs.Prelude.{◌≡◌, ◌*◌, ◌^◌, ◌-◌, ◌<◌, ◌≤◌, ◌↔◌, [], ◌∷◌, true, false, None, Some, nat_eq, IsTrue, IfSome, IfNone, OnSome, length, map};
 ghost use Rattle.std.specs.FinSet.{contains};
 ghost use Rattle.std.specs.Int.{w32, from_le_bytes};
 ghost use Rattle.std.specs.List.{list_any};
@@ -12,6 +12,8 @@ ghost use Rattle.hll_coupons.specs.Fold.{fold_to};
 ghost use Rattle.hll_coupons.specs.Pair.{set_of};
 ghost use Rattle.hll_sketch.specs.Borrowed.{AreMarked, AreEvidentlyCoupons};
 ghost use Rattle.hll_sketch.specs.MergedIn.{IsOfCoupons, raw_coupons_in, HasCompactCoupons};
+ghost use Rattle.hll_base.specs.declared.error.Reason.TheVariants as reasons;
+ghost use Rattle.hll_sketch.specs.Checks.{first_fault, size_fault};
 ghost use Rattle.hll_sketch.specs.Header.{header_of};
 ghost use Rattle.hll_sketch.specs.Image.{HasHeader, stage_bits, is_flagged};
 ghost use Rattle.hll_sketch.specs.Laws.{add_in_turn};
@@ -35,6 +37,9 @@ const LAST_WITHOUT_VALUE: u32 = (1 << SLOT_BITS) - 1;
 /// Up to this number, coupons are checked with marks to be distinct.
 pub(crate) const FEW: usize = 128;
 
+/// A table of at most 2 to the power of this number of buckets takes no longer to make than marks do.
+const LG_SMALL_TABLE: u8 = 8;
+
 /// The number of marks, so large that few of `FEW` coupons share one.
 const MARKS: usize = 1024;
 
@@ -47,12 +52,12 @@ pub(crate) struct RawCoupons<'a> {
 }
 
 impl<'a> RawCoupons<'a> {
-    /// Returns the first `count` raw coupons, or `None` if `count` is 0 or the bytes are too few.
+    /// Returns the first `count` raw coupons, or `None` if the bytes are too few.
     pub(crate) fn front(bytes: &'a [u8], count: usize) -> Option<RawCoupons<'a>>
-        ensures some { IfSome result (λ w. (w.bytes.now ≡ bytes.now) × (w.count ≡ count) × (1 ≤ count) × (4 * count ≤ length bytes.now)) }
-        ensures none { IfNone result (1 ≤ count → length bytes.now < 4 * count) }
+        ensures some { IfSome result (λ w. (w.bytes.now ≡ bytes.now) × (w.count ≡ count) × (4 * count ≤ length bytes.now)) }
+        ensures none { IfNone result (length bytes.now < 4 * count) }
     {
-        if count == 0 || bytes.len() / COUPON_SIZE_BYTES < count {
+        if bytes.len() / COUPON_SIZE_BYTES < count {
             return None;
         }
         Some(RawCoupons { bytes, count })
@@ -132,14 +137,16 @@ impl<'a> RawCoupons<'a> {
         requires { index ≤ self.now.count }
         ensures { result ≡ list_any (λ w. nat_eq w raw_coupon) (raw_coupons index self.now.bytes.now) }
     {
-        let mut cursor = SketchSlice::new(self.bytes);
-        for _ in 0..index {
-            match cursor.read_u32_le() {
-                Ok(other) if other != raw_coupon => {}
-                _ => return true,
-            }
+        let before = RawCoupons {
+            bytes: self.bytes,
+            count: index,
+        };
+        // (without an exit from the loop, so that the compiler compares several at once)
+        let mut found = false;
+        for element in before.elements() {
+            found |= u32::from_le_bytes(*element) == raw_coupon;
         }
-        false
+        found
     }
 
     /// Returns true if these are coupons that ascend or are few. Returns false for others, even if they are coupons.
@@ -210,8 +217,8 @@ pub fn max_coupon(registers: &mut [u8], lg_k: u8, coupon: Coupon)
     }
 }
 
-/// Returns the coupons after the header of a list or a set, if there are some, the image is compact, and they ascend or are
-/// few.
+/// Returns the coupons after the header of a list or a set, if the image is compact, and they ascend or are few. There may be
+/// none.
 // (inlined, so that its result isn't written to memory)
 #[inline(always)]
 pub(crate) fn compact_coupons(bytes: &[u8], header: Header) -> Option<RawCoupons<'_>>
@@ -231,8 +238,8 @@ pub(crate) fn compact_coupons(bytes: &[u8], header: Header) -> Option<RawCoupons
     }
 }
 
-/// Returns the raw coupons of a compact list or set, in the number that the image says. Returns `None` if a check other than
-/// that of coupons fails, or if there are none.
+/// Returns the raw coupons of a compact list or set, in the number that the image says, which may be 0, or none of an empty list.
+/// Returns `None` if a check other than that of coupons fails.
 // (inlined, as `compact_coupons` is)
 #[inline(always)]
 pub(crate) fn counted_coupons(bytes: &[u8], header: Header) -> Option<RawCoupons<'_>>
@@ -241,7 +248,7 @@ pub(crate) fn counted_coupons(bytes: &[u8], header: Header) -> Option<RawCoupons
     requires header { header ≡ header_of bytes.now }
     ensures raw_coupons { IfSome result (λ w. raw_coupons w.count w.bytes.now ≡ raw_coupons_in bytes.now) }
     ensures coupons { IfSome result (λ w. AreCoupons (raw_coupons w.count w.bytes.now) → IsOfCoupons bytes.now (raw_coupons w.count w.bytes.now)) }
-    ensures compact { OnSome result (is_flagged 8 bytes.now ≡ true) }
+    ensures compact { IfSome result (λ w. 1 ≤ w.count → is_flagged 8 bytes.now ≡ true) }
     ensures none { IfNone result (HasCompactCoupons bytes.now → ⊥) }
 {
     match header.stage {
@@ -251,24 +258,43 @@ pub(crate) fn counted_coupons(bytes: &[u8], header: Header) -> Option<RawCoupons
     }
 }
 
-/// Returns the raw coupons after the header of a compact list, in the number that it says. Returns `None` if a check other than
-/// that of coupons fails.
+/// Returns the raw coupons after the header of a compact list, in the number that it says, or none of an empty list, which may
+/// lack the compact flag. Returns `None` if a check other than that of coupons fails.
 fn list_coupons(bytes: &[u8], header: Header) -> Option<RawCoupons<'_>>
     requires has { HasHeader bytes.now 0 }
     requires header { header ≡ header_of bytes.now }
     ensures raw_coupons { IfSome result (λ w. raw_coupons w.count w.bytes.now ≡ raw_coupons_in bytes.now) }
     ensures coupons { IfSome result (λ w. AreCoupons (raw_coupons w.count w.bytes.now) → IsOfCoupons bytes.now (raw_coupons w.count w.bytes.now)) }
-    ensures compact { OnSome result (is_flagged 8 bytes.now ≡ true) }
+    ensures compact { IfSome result (λ w. 1 ≤ w.count → is_flagged 8 bytes.now ≡ true) }
     ensures none { IfNone result (HasCompactCoupons bytes.now → ⊥) }
 {
-    if !header.compact || header.empty || header.lg_arr != LG_LIST_BUCKETS {
+    if header.lg_arr != LG_LIST_BUCKETS {
         return None;
     }
     let count = usize::from(header.state_byte);
-    if two_to(LG_LIST_BUCKETS) < count {
+    if !(header.compact | (count == 0)) {
+        return None;
+    }
+    if header.empty != (count == 0) || two_to(LG_LIST_BUCKETS) < count {
         return None;
     }
     RawCoupons::front(&bytes[HEADER_SIZE..], count)
+}
+
+/// Returns true if an image of a compact set says that it has few coupons in a large table, and one of them has the value 0 or
+/// two are equal. Then no table is made to find that out.
+pub(crate) fn few_are_faulty(bytes: &[u8], header: Header) -> bool
+    requires has { HasHeader bytes.now 1 }
+    requires header { header ≡ header_of bytes.now }
+    ensures { result ≡ true → first_fault bytes.now ≡ Some reasons.Coupon }
+{
+    if header.lg_arr <= LG_SMALL_TABLE {
+        return false;
+    }
+    match set_coupons(bytes, header) {
+        Some(coupons) => coupons.count <= FEW && !coupons.differ(),
+        None => false,
+    }
 }
 
 /// Returns the raw coupons after the count of a compact set, in that number. Returns `None` if a check other than that of
@@ -279,6 +305,7 @@ fn set_coupons(bytes: &[u8], header: Header) -> Option<RawCoupons<'_>>
     ensures raw_coupons { IfSome result (λ w. raw_coupons w.count w.bytes.now ≡ raw_coupons_in bytes.now) }
     ensures coupons { IfSome result (λ w. AreCoupons (raw_coupons w.count w.bytes.now) → IsOfCoupons bytes.now (raw_coupons w.count w.bytes.now)) }
     ensures compact { OnSome result (is_flagged 8 bytes.now ≡ true) }
+    ensures sized { OnSome result (size_fault bytes.now ≡ None) }
     ensures none { IfNone result (HasCompactCoupons bytes.now → ⊥) }
 {
     if !header.compact

@@ -13,6 +13,7 @@ ghost use Rattle.hll_sketch.specs.Refusal.{IsRefusal};
 
 use crate::header::{HEADER_SIZE, Header, Stage};
 use crate::mode::Mode;
+use crate::raw_coupons::few_are_faulty;
 use crate::sketch::HllSketch;
 use hll_arrays::array4::Array4;
 use hll_arrays::array6::Array6;
@@ -137,6 +138,9 @@ fn read_set<A: Allocator + Clone>(
 {
     if header.lg_arr < LG_LEAST_SET_BUCKETS || header.lg_k - LG_SET_BELOW_LG_K < header.lg_arr {
         return Err(Error::new(Reason::LgArr));
+    }
+    if few_are_faulty(bytes, header) {
+        return Err(Error::new(Reason::Coupon));
     }
     let set = HashSet::deserialize(
         alloc,

@@ -353,7 +353,8 @@ impl<A: Allocator + Clone> HllSketch<A> {
         }
     }
 
-    /// Adds the coupons of raw coupons in turn (docs/MODEL.md, "Adding").
+    /// Adds the coupons of raw coupons in turn (docs/MODEL.md, "Adding"). For the calls of the C library, which drop the sketch
+    /// on an error.
     ///
     /// The value of each is at least 1. Fails with `Memory`, as `update_with_coupon` does; the coupons before that are then
     /// added.

@@ -1,7 +1,7 @@
 // SPDX-License-Identifier: Apache-2.0
 //! Puts the coupons of an image in ascending order: up to `FEW` of them are sorted in an array on the stack.
 ghost use Rattle.std.specs.Prelude.{◌≡◌, ◌<◌, ◌≤◌, take, length, IfSome, IfNone, OnSome};
-ghost use Rattle.std.specs.List.Sorted.{IsStrictlyIncreasing};
+ghost use Rattle.std.specs.List.Sorted.{IsPermutation, IsStrictlyIncreasing};
 ghost use Rattle.hll_coupons.specs.Coupons.{raw_coupons, AreCoupons, IsAscending};
 ghost use Rattle.hll_coupons.specs.Pair.{set_of};
 ghost use Rattle.hll_sketch.specs.CouponImages.{HasEvidentCoupons};
@@ -88,6 +88,7 @@ pub(crate) fn sorted_numbers<'a>(
     ensures some { IfSome result (λ w. IsAscending (raw_coupons w.count w.bytes.now) (set_of numbers.old)) }
     ensures are { OnSome result (AreCoupons numbers.old) }
     ensures none { IfNone result (AreCoupons numbers.old → ⊥) }
+    ensures order { IsPermutation numbers.old numbers.new }
 {
     numbers.sort_unstable();
     write_raw_coupons(numbers, room);

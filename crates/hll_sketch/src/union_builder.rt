@@ -32,7 +32,7 @@ use hll_coupons::serialization::LG_LIST_BUCKETS;
 use std::alloc::{Allocator, Global};
 use std::marker::Model;
 
-/// If the union has at most this number of coupons, others are added at once.
+/// If the union has at most this number of coupons, those of a sketch or of a list are added at once, which allocates nothing.
 const MOST_IN_LIST: usize = 1 << LG_LIST_BUCKETS;
 
 /// Fewer coupons than this wait, however few coupons the union has.
@@ -86,7 +86,7 @@ impl<A: Allocator + Clone> UnionBuilder<A> {
             return Ok(());
         }
         self.settle_if_many()?;
-        if self.lets_wait()
+        if self.lets_wait(MOST_IN_LIST)
             && let Some(table) = sketch.table()
         {
             return self.waiting.extend_from_table(table);
@@ -106,16 +106,15 @@ impl<A: Allocator + Clone> UnionBuilder<A> {
         ensures err { IfErr result (IsRefusal image.now) }
     {
         let header = Header::read(image)?;
-        if self.lets_wait() {
+        if self.lets_wait(most_at_once(header.stage)) {
             self.update_while_waiting(image, header)
         } else {
             self.union.merge_image(image, header)
         }
     }
 
-    /// Returns whether coupons wait, or whether those of the next sketch would: if the union has more coupons than a list
-    /// holds. If it doesn't, they are added at once, which allocates nothing.
-    fn lets_wait(&self) -> bool
+    /// Returns whether coupons wait, or whether those of the next sketch would: if the union has more coupons than `most`.
+    fn lets_wait(&self, most: usize) -> bool
         ensures table { result ≡ true → in_registers (sketch_of self.now.kept).content ≡ false }
         ensures some { result ≡ true → is_empty (sketch_of self.now.kept) ≡ false }
         ensures gadget { result ≡ true → IsGadget self.now.lg_max_k (sketch_of self.now.kept) }
@@ -124,7 +123,7 @@ impl<A: Allocator + Clone> UnionBuilder<A> {
         ensures none { result ≡ false → length self.now.waiting ≡ 0 }
     {
         match self.union.coupons() {
-            Some(own) => self.waiting.len() != 0 || MOST_IN_LIST < own,
+            Some(own) => self.waiting.len() != 0 || most < own,
             None => false,
         }
     }
@@ -169,7 +168,7 @@ impl<A: Allocator + Clone> UnionBuilder<A> {
         ensures err { IfErr result (IsRefusal image.now) }
     {
         self.settle_if_many()?;
-        if self.lets_wait() {
+        if self.lets_wait(most_at_once(header.stage)) {
             self.waiting.extend_from_raw_coupons(coupons.all())
         } else {
             self.union.merge_image(image, header)
@@ -254,6 +253,15 @@ impl<A: Allocator + Clone> UnionBuilder<A> {
         self.settle()?;
         let UnionBuilder { union, waiting: _ } = self;
         Ok(union)
+    }
+}
+
+/// If the union has at most this number of coupons, those of an image at this stage are added at once. Those of a set wait if the
+/// union has any: the table in which they would be read may be far larger than the image.
+fn most_at_once(stage: Stage) -> usize {
+    match stage {
+        Stage::Set => 0,
+        Stage::List | Stage::Hll => MOST_IN_LIST,
     }
 }
 

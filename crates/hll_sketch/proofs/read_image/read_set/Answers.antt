@@ -35,6 +35,10 @@ returns-then-header-lt-LG_LEAST_SET_BUCKETS-clause-err g c =
     ] in
     subst (IsRefusal b) (sym c.new.ensures) (refused b reasons.LgArr (set_table_first b c.requires.has none) (λ e. cc))
 
+pub returns-then-few_are_faulty-clause-err : goal.returns-then-few_are_faulty-clause-err
+returns-then-few_are_faulty-clause-err g c =
+    subst (IsRefusal c.args.bytes.now) (sym c.new-then-few_are_faulty.ensures) (refused c.args.bytes.now reasons.Coupon (c.few_are_faulty.ensures c.if-few_are_faulty.true) (λ e. cc))
+
 -- the checks up to a wrong number of filled buckets pass
 abbrev Right : SetShape → List ℕ → Reason → Type 0
 Right h payload e = e ≡ reasons.Count → HasSetCount h payload → AreCoupons (set_coupons h payload)

@@ -29,7 +29,7 @@ returns-clause-coupons c =
     (omega (arith, read.0, ap length entry))
     (is.2 ∙ read.1 ∙ ap set_count entry)
     (ap (λ (h : Header). h.compact) (sym says) ∙ c.if-header.false)
-    p.some (omega (arith, is.2, c.if-two_to-filled.false, c.two_to.ensures, ap (λ n. 2 ^ n) size))
+    (omega (arith, is.2, c.if-two_to-filled.false, c.two_to.ensures, ap (λ n. 2 ^ n) size))
     (omega (arith, p.raw_coupons.there, is.1, ap length (is.0 ∙ index), ap (λ n. 2 ^ n) size))
     (subst (HoldCoupons p.filled) same hold))
 
