@@ -1,7 +1,8 @@
 #!/usr/bin/env python3
 # SPDX-License-Identifier: Apache-2.0
 """Measures calls of C, Python and PostgreSQL over the images of bench/worst_cases.py that take longest, how soon PostgreSQL ends
-calls of two such images, and unions of a set with many small lists.
+calls of two such images, and unions of a set with many small lists; and calls over small images that were made to be slow
+(bench/small_images.py).
 
 Prints the seconds of each call, over coupons or exceptions on one path and over random ones, for docs/NUMBERS.md. Each result
 is compared with that of the same call over the same image in the order in which it is written; that of many images with the
@@ -21,6 +22,7 @@ from built import built_program  # noqa: E402
 from long_searches import path_coupons, random_coupons, unsorted_set  # noqa: E402
 from plain_images import image_line, list_image, set_image  # noqa: E402
 from shared import machine, plan_file, run  # noqa: E402
+import small_images  # noqa: E402
 from worst_cases import exceptions_plan, set_plan, strides_plan  # noqa: E402
 
 
@@ -53,8 +55,8 @@ def calls_of_c(image, canonical):
 
 
 def calls_of_python(image, canonical):
-    from hll_sketches import Sketch, check, union_of
-    yield "Python, check", lambda: check(image), None
+    from hll_sketches import Sketch, fault_of, union_of
+    yield "Python, fault_of", lambda: fault_of(image), None
     yield "Python, Sketch and its estimate", lambda: Sketch.from_bytes(image).estimate(), \
         Sketch.from_bytes(canonical).estimate()
     width = Sketch.from_bytes(canonical).width
@@ -193,9 +195,16 @@ def main():
     parser = argparse.ArgumentParser(description="Measures calls over the images that take longest.")
     parser.add_argument("--runs", type=int, default=3, help="how often each call is made")
     parser.add_argument("--many", action="store_true", help="unions of many images alone")
+    parser.add_argument("--small", action="store_true", help="small images that were made to be slow alone")
     given = parser.parse_args()
     runs = given.runs
     print(machine())
+    if not given.many:
+        small_images.main()
+        measure_postgresql(lambda server, session: small_images.print_rows(21, [
+            lambda images: small_images.of_postgresql(server, session, images)]))
+    if given.small:
+        return
     print("| images | call | seconds, one path | seconds a megabyte | seconds, random | ratio |\n|---|---|---|---|---|---|")
     measure_many(runs, unions_of_many)
     measure_postgresql(lambda server, session: measure_many(runs, queries_of_many(server, session)))
