@@ -496,7 +496,7 @@ def check_commands():
     """One test for each command of the pages for users."""
     results = run_page("README.md") + run_page("CALLING.md", "cat >") + run_page("SECURITY.md", "hll ")
     results += run_page("docs/PLAN.md", ("bin/", "printf ")) + run_page("docs/PROVED.md", "printf ")
-    results += run_page("docs/OPERATING.md", "hll ", "mkdir sketches && hll new sketches/1.hll") + run_scale()
+    results += run_page("docs/OPERATING.md", ("hll ", "printf "), "mkdir sketches && hll new sketches/1.hll") + run_scale()
     return results.count(True), results.count(False)
 
 

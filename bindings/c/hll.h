@@ -95,9 +95,10 @@
  *     - If an image is merged into registers that are not all 0, and these are written as an image, the result is the union of
  *       the registers and the image, with the estimator fields set.
  *     - What a state means after a merge (hll_state_join), for states whose registers, if they have registers, are not all
- *       0. No call leaves a state whose registers are all 0.
+ *       0. Calls leave only such states, but that is proved of none.
  *     - The estimate from registers (of images, registers, histograms and states): it is the double nearest to a number that
- *       differs from the estimator's value by at most one part in 2^40 plus 2^-32, and never falls if a register rises.
+ *       never falls if a register rises. That number differs by at most one part in 2^40 plus 2^-32 from the greater of the
+ *       number of registers above 0 and the value of the formula in docs/NUMBERS.md.
  *     That the order, repetition and grouping of canonical images under one lg_max_k make no difference follows from laws that
  *     are proved for sketches (docs/PROVED.md, "The headline"). No clause of a call says it.
  *     Not proved, but tested: bounds, estimates from coupons, hll_hip_estimate, hll_version, the division of a state's room
@@ -204,21 +205,23 @@ uint32_t hll_version(void);
 
 /* Reports what an image says about its sketch. info_size is sizeof *info. If it is not the size in this version of the
  * library, the caller was compiled for another version, and the call returns HLL_ARGUMENT.
- * Returns HLL_OK, 1 to 11, HLL_ARGUMENT or HLL_MEMORY. Allocates a table for coupons, except for a compact image of 1 to 128
+ * Returns HLL_OK, 1 to 11, HLL_ARGUMENT or HLL_MEMORY. Allocates a table for coupons, except for a compact image of at most 128
  * distinct coupons, or of more coupons that ascend; and a map for the exceptions of 4-bit registers. */
 hll_status hll_image_info(const uint8_t *image, size_t len, hll_info *info, size_t info_size);
 
 /* Checks whether the bytes begin with an image.
- * Returns HLL_OK if they do, 1 to 11 if they don't, or HLL_MEMORY. Allocates nothing for 1 to 128 distinct coupons, for
- * ascending coupons of a compact image, for registers of 6 and 8 bits, and for 4-bit registers without exceptions. Allocates
- * the memory of reading for other coupons, and a map for the exceptions of other 4-bit registers. */
+ * Returns HLL_OK if they do, 1 to 11 if they don't, or HLL_MEMORY. Allocates nothing for at most 128 distinct coupons, or for
+ * ascending coupons, of a compact image; for 1 to 128 distinct coupons of an updatable image; for registers of 6 and 8 bits; and
+ * for 4-bit registers without exceptions. Allocates the memory of reading for other coupons, and a map for the exceptions of
+ * other 4-bit registers. */
 hll_status hll_image_check(const uint8_t *image, size_t len);
 
 /* Measures the image that the bytes begin with: *size is its number of bytes.
  * Returns HLL_OK, 1 to 11, or HLL_MEMORY. Allocates as hll_image_check does. */
 hll_status hll_image_size(const uint8_t *bytes, size_t len, size_t *size);
 
-/* Counts the registers with each value, at the lg_k of the image. The coupons of a list or a set are folded to that lg_k.
+/* Counts the registers with each value, at the lg_k of the image. The coupons of a list or a set are folded to that lg_k, so
+ * the call takes the time of 2^lg_k registers however small the image is.
  * Returns HLL_OK, 1 to 11, or HLL_MEMORY. Allocates 2^lg_k bytes, a map for the exceptions of 4-bit registers, and for
  * coupons what hll_image_info does. */
 hll_status hll_image_histogram(const uint8_t *image, size_t len, hll_histogram *histogram);
@@ -482,8 +485,9 @@ hll_status hll_coupons_ends32(const uint8_t *values, size_t values_len, const in
 /* ---- estimates ---- */
 
 /* Estimates the number of distinct values.
- * From registers this is Ertl's improved estimator, with a relative standard error of 1.04 / sqrt(2^lg_k). It is computed in
- * whole numbers, so it is the same on every processor. The estimate of a union of registers is never below that of its parts
+ * From registers this is Ertl's improved raw estimator, divided by 1 + e / 2^lg_k to correct it for few registers
+ * (docs/NUMBERS.md), and at least the number of registers above 0. Its relative standard error is 1.04 / sqrt(2^lg_k). It is
+ * computed in whole numbers, so it is the same on every processor. The estimate of a union of registers is never below that of its parts
  * at the same lg_k. If every register is 63, the estimate is infinite.
  * From a list or a set it is the number of coupons, corrected for coupons that several values share. It is nearly exact, and
  * may fall when the coupons become registers. A lower bound is never below the number of coupons, or of registers above 0,
@@ -598,8 +602,9 @@ static inline uint8_t hll_state_lg_k(const void *state)
     return hll_state_number(state, 1) & 31;
 }
 
-/* Returns the width of the images that were merged into a state, 4, 6 or 8: of the images with values or, if no image has
- * values, of all images. Returns 8 if no image was merged, or if their widths differ. */
+/* Returns the width of the images that were merged into a state: 4, 6 or 8. Returns 8 if none counts, or if their widths differ.
+ * If a state has no values, an image with values counts alone: the images before it no longer count. If a state has values, an
+ * image without values doesn't count. */
 static inline uint8_t hll_state_width(const void *state)
 {
     uint32_t widths = hll_state_number(state, 2) & 7;

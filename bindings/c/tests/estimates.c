@@ -86,6 +86,19 @@ static void test_other_histograms(void)
     CHECK(memcmp(&found, &before, sizeof found) == 0, "a refusal writes nothing");
 }
 
+/* Where the estimate is not Ertl's: of one register above 0 it is the number of such registers, and of few registers it is divided
+ * by 1 + e / m. The values were computed with 60 digits. */
+static void test_corrected(void)
+{
+    hll_histogram histogram = {{4095, 1}};
+    hll_estimation found;
+    CHECK(hll_histogram_estimate(&histogram, &found) == HLL_OK && found.estimate == 1.0, "%.17g of one register", found.estimate);
+    histogram.counts[0] = 0;
+    histogram.counts[1] = 16;
+    CHECK(hll_histogram_estimate(&histogram, &found) == HLL_OK && fabs(found.estimate - 21.6235322288) < 1e-8, "%.17g of sixteen",
+          found.estimate);
+}
+
 /* Numbers of coupons up to the greatest: each more than the one before, and between bounds that are. */
 static void test_many_coupons(void)
 {
@@ -303,6 +316,7 @@ int main(void)
 {
     test_streams();
     test_other_histograms();
+    test_corrected();
     test_many_coupons();
     test_widths();
     test_numbers();

@@ -229,6 +229,39 @@ static void test_image(bytes image)
     }
 }
 
+/* Sets of few coupons, in a table that their header says is large. No call here makes that table, so none needs memory for it. */
+static void test_few_in_a_large_table(void)
+{
+    static const uint8_t none[] = {3, 1, 7, 21, 18, 8, 0, 9, 0, 0, 0, 0};
+    static const uint8_t one[] = {3, 1, 7, 21, 18, 8, 0, 9, 1, 0, 0, 0, 5, 0, 0, 12};
+    static const uint8_t twice[] = {3, 1, 7, 21, 18, 8, 0, 9, 2, 0, 0, 0, 5, 0, 0, 12, 5, 0, 0, 12};
+    static const struct {
+        const uint8_t *at;
+        size_t len;
+        hll_status status;
+    } sets[] = {{none, sizeof none, HLL_OK}, {one, sizeof one, HLL_OK}, {twice, sizeof twice, HLL_COUPON}};
+    static uint8_t registers[1 << 12];
+    uint8_t state[HLL_STATE_NEW + 16], lg_k;
+    size_t size, number;
+    hll_info info;
+    hll_estimation found;
+    for (number = 0; number < 3; number++) {
+        const uint8_t *at = sets[number].at;
+        size_t len = sets[number].len;
+        hll_status status = sets[number].status;
+        need(hll_state_new(21, state, sizeof state) == HLL_OK, "a new state");
+        granted = 0;
+        CHECK(hll_image_check(at, len) == status, "check, set %zu", number);
+        CHECK(hll_image_size(at, len, &size) == status, "size, set %zu", number);
+        CHECK(hll_registers_merge(registers, sizeof registers, at, len, &lg_k) == status, "registers, set %zu", number);
+        CHECK(hll_state_join(0, state, sizeof state, &size, at, len) == status, "join, set %zu", number);
+        CHECK(hll_image_info(at, len, &info, sizeof info) == status, "info, set %zu", number);
+        CHECK(hll_estimate(at, len, &found) == status, "estimate, set %zu", number);
+        granted = -1;
+    }
+    CHECK(held == 0, "%ld", held);
+}
+
 int main(void)
 {
     static const size_t values[] = {0, 5, 8, 100, 380, 20000};
@@ -241,6 +274,7 @@ int main(void)
             test_image(image);
             free(image.at);
         }
+    test_few_in_a_large_table();
     CHECK(refused > 500, "only %ld requests were refused", refused);
     printf("%ld requests for memory were refused\n", refused);
     return finish("each request for memory refused in turn");

@@ -328,9 +328,28 @@ static void refusals(void)
     CHECK(hll_state_add(state, sizeof state, &size, (const uint8_t *)"abc", 3, past, 2) == HLL_ARGUMENT, "ends");
     CHECK(hll_state_add_coupons(state, sizeof state, &size, &no_coupon, 1) == HLL_ARGUMENT, "no coupon");
     CHECK(hll_state_image(state, sizeof state, 5, out, sizeof out, &size) == HLL_ARGUMENT, "width");
+    CHECK(hll_state_image(state, sizeof state, 0, out, sizeof out, &size) == HLL_ARGUMENT, "width 0");
     CHECK(memcmp(before, state, sizeof state) == 0 && size == 77, "refused calls changed something");
     CHECK(hll_state_image(state, sizeof state, 8, out, 7, &size) == HLL_BUFFER && size == 8, "%zu", size);
     CHECK(hll_state_add(state, sizeof state, &size, NULL, 0, NULL, 0) == HLL_OK && size == 8, "no values");
+}
+
+/* Calls that fail may change bytes of a state, which then still means the same: here they sort its coupons. */
+static void changed_bytes(void)
+{
+    static const uint32_t coupons[] = {0x0c0001f4, 0x08000007, 0x24000001}, more = 0x04000002;
+    uint8_t state[HLL_STATE_NEW + 12], before[sizeof state], image[64], later[64];
+    size_t size, later_size;
+    need(hll_state_new(12, state, sizeof state) == HLL_OK &&
+             hll_state_add_coupons(state, sizeof state, &size, coupons, 3) == HLL_OK,
+         "a full state");
+    memcpy(before, state, sizeof state);
+    CHECK(hll_state_add_coupons(state, sizeof state, &size, &more, 1) == HLL_BUFFER && size > sizeof state, "%zu", size);
+    CHECK(memcmp(before, state, sizeof state) != 0, "the coupons were sorted before");
+    CHECK(hll_state_image(before, sizeof before, 8, image, sizeof image, &size) == HLL_OK &&
+              hll_state_image(state, sizeof state, 8, later, sizeof later, &later_size) == HLL_OK && size == later_size &&
+              memcmp(image, later, size) == 0,
+          "the sketch changed");
 }
 
 /* Joins that are refused, each of which changes nothing. */
@@ -425,6 +444,7 @@ int main(int argc, char **argv)
     uint64_t random = 20261128;
     refusals();
     refused_joins();
+    changed_bytes();
     for (lg_k = 4; lg_k <= 10; lg_k++)
         each_count(lg_k);
     for (number = 0; number < walks; number++)
