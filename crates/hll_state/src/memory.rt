@@ -1,6 +1,7 @@
 // SPDX-License-Identifier: Apache-2.0
 //! States in caller-owned memory: reading and writing their headers, and making room for more coupons.
-ghost use Rattle.std.specs.Prelude.{◌≡◌, ℕ, ◌+◌, ◌-◌, ◌≤◌, true, false, length, drop, Some, IfSome, IfNone};
+ghost use Rattle.std.specs.Prelude.{◌≡◌, ℕ, ◌+◌, ◌-◌, ◌≤◌, true, false, [], ◌∷◌, length, drop, Some, IfSome, IfNone};
+ghost use Rattle.hll_sketch.specs.Laws.{add_in_turn};
 ghost use Rattle.hll_sketch.specs.Value.{IsLgK};
 ghost use Rattle.hll_state.specs.Counter.{sketch_in, IsResolved};
 ghost use Rattle.hll_state.specs.Header as spec;
@@ -9,6 +10,7 @@ ghost use Rattle.hll_state.specs.declared.header.Header.{Header};
 ghost use Rattle.hll_state.specs.Memory.{HasHeader, IsState, OfState, IsOnlyRead, IsBegun};
 
 use crate::header::{HEADER_LEN, Header, Held, elements_for};
+use crate::registers::is_raised;
 use hll_registers::registers::two_to;
 
 /// Reads the header of a state. Returns `None` if the elements are not a state: too few, or not written by calls of this
@@ -39,6 +41,18 @@ pub fn close(elements: &mut [[u8; 4]], header: Header)
     ensures rest { drop 10 elements.new ≡ drop 10 elements.old }
 {
     header.write(elements);
+}
+
+/// Returns whether the elements are a state with registers of which the coupon's is at least the coupon's value: then adding the
+/// coupon changes nothing.
+#[inline(always)]
+pub fn has_raised(elements: &[[u8; 4]], raw: u32) -> bool
+    ensures { result ≡ true → OfState elements.now (λ x. add_in_turn x (raw ∷ []) ≡ x) }
+{
+    match open(elements) {
+        Some(header) => header.has_raised(&elements[HEADER_LEN..], raw),
+        None => false,
+    }
 }
 
 /// The result of `begin`.
@@ -85,6 +99,18 @@ pub fn resolve(elements: &mut [[u8; 4]]) -> Option<Header>
 }
 
 impl Header {
+    /// Returns whether there are registers of which the coupon's is at least the coupon's value.
+    #[inline(always)]
+    fn has_raised(&self, body: &[[u8; 4]], raw: u32) -> bool
+        requires { IsWithin self.now (length body.now) }
+        ensures { result ≡ true → add_in_turn (sketch_in self.now body.now) (raw ∷ []) ≡ sketch_in self.now body.now }
+    {
+        match self.held {
+            Held::Coupons(_) => false,
+            Held::Registers(_) => is_raised(body, self.lg_k, raw),
+        }
+    }
+
     /// Returns whether there is room for `count` more coupons. Repeated coupons are dropped first, if there may be many.
     #[inline(always)]
     pub fn make_room(&mut self, body: &mut [[u8; 4]], count: usize) -> bool

@@ -1,6 +1,6 @@
 // SPDX-License-Identifier: Apache-2.0
 //! Registers of a counter in borrowed elements: one byte each, four in an element, in ascending slots. No call allocates.
-ghost use Rattle.std.specs.Prelude.{◌≡◌, ◌*◌, ◌+◌, ◌-◌, ◌%◌, ◌^◌, ◌<◌, ◌≤◌, [], ◌∷◌, ◌++◌, drop, length, nat_eq, not, slice_index, slice_set, take, IfOk, IfErr};
+ghost use Rattle.std.specs.Prelude.{◌≡◌, ◌*◌, ◌+◌, ◌-◌, ◌%◌, ◌^◌, ◌<◌, ◌≤◌, true, [], ◌∷◌, ◌++◌, drop, length, nat_eq, not, slice_index, slice_set, take, IfOk, IfErr};
 ghost use Rattle.std.specs.Cmp.Lexicographic.{pointwise};
 ghost use Rattle.hll_base.specs.Join.{join};
 ghost use Rattle.hll_base.specs.declared.error.Reason.TheVariants as reasons;
@@ -65,6 +65,19 @@ pub fn raise(elements: &mut [[u8; 4]], lg_k: u8, raw: u32) -> bool
     true
 }
 
+/// Returns whether the register of the coupon's slot modulo 2^`lg_k` is at least the coupon's value: then `raise` changes nothing.
+#[inline(always)]
+pub fn is_raised(elements: &[[u8; 4]], lg_k: u8, raw: u32) -> bool
+    requires least { 4 ≤ lg_k }
+    requires most { lg_k ≤ 21 }
+    requires size { 2 ^ (lg_k - 2) ≤ length elements.now }
+    ensures { let R = values (take (2 ^ (lg_k - 2)) elements.now) in result ≡ true → R ≡ join R (fold_to (set_of (raw ∷ [])) lg_k) }
+{
+    let slot = raw as usize % two_to(lg_k);
+    let value = (raw >> SLOT_BITS) as u8;
+    get(&elements[..two_to(lg_k - 2)], slot) >= value
+}
+
 /// Raises the registers of coupons in turn.
 pub(crate) fn raise_all(elements: &mut [[u8; 4]], lg_k: u8, coupons: &[[u8; 4]])
     requires least { 4 ≤ lg_k }
@@ -111,16 +124,21 @@ fn make_registers(elements: &mut [[u8; 4]], lg_k: u8, coupons: &[[u8; 4]])
 /// Takes the maximum of 2^`lg_k` registers, four in an element, and of the source's registers that fold to them: register s of
 /// the source folds to register s modulo 2^`lg_k`.
 ///
-/// `lg_k` is 4 to 21, and at most the source's. It takes one pass over the source, in blocks of 2^14 registers, or more if
-/// small blocks are expensive. It uses 4 to 32 kilobytes of the stack.
-pub fn max_with<R: Registers>(elements: &mut [[u8; 4]], lg_k: u8, src: &R)
+/// `lg_k` is 4 to 21, and at most the source's. It takes one pass over the source: in lanes, 2^6 registers at a time, if the
+/// source has the same `lg_k` and is fast in small blocks; otherwise in blocks of 2^14 registers or more, which take 4 to 32
+/// kilobytes of the stack.
+pub fn max_with<R: Registers>(elements: &mut [[u8; 4]], lg_k: u8, src: &R, in_lanes: bool)
     requires least { 4 ≤ lg_k }
     requires most { lg_k ≤ (R.stored src.now).lg_k }
     requires size { length elements.old ≡ 2 ^ (lg_k - 2) }
     ensures joined { values elements.new ≡ join (values elements.old) (fold_to (pairs (R.stored src.now).registers) lg_k) }
     ensures registers { AreRegisters lg_k (values elements.old) → AreRegisters lg_k (values elements.new) }
 {
-    if elements.len() <= SMALL_PART {
+    if elements.len() < 16 {
+        max_in_copy::<64, R>(elements, lg_k, src);
+    } else if in_lanes && src.lg_k() == lg_k {
+        max_in_lanes(elements, lg_k, src);
+    } else if elements.len() <= SMALL_PART {
         max_in_copy::<4096, R>(elements, lg_k, src);
     } else if elements.len() <= PART {
         max_in_copy::<16384, R>(elements, lg_k, src);
@@ -144,6 +162,78 @@ fn max_in_copy<const N: usize, R: Registers>(elements: &mut [[u8; 4]], lg_k: u8,
     copy.copy_from_slice(elements.as_flattened());
     max_folds(copy, lg_k, src);
     write_all(elements, copy);
+}
+
+/// Takes the maximum as `max_with` does, with one block of the source's registers after the other, in lanes.
+fn max_in_lanes<R: Registers>(elements: &mut [[u8; 4]], lg_k: u8, src: &R)
+    requires least { 4 ≤ lg_k }
+    requires most { lg_k ≤ (R.stored src.now).lg_k }
+    requires size { length elements.old ≡ 2 ^ (lg_k - 2) }
+    ensures joined { values elements.new ≡ join (values elements.old) (fold_to (pairs (R.stored src.now).registers) lg_k) }
+    ensures registers { AreRegisters lg_k (values elements.old) → AreRegisters lg_k (values elements.new) }
+{
+    let size = 4 * elements.len();
+    for block in 0..two_to(src.lg_k() - lg_k) {
+        max_from_in_lanes(elements, block * size, src);
+    }
+}
+
+/// Takes the maximum of registers and of the source's registers from `first` on, 64 registers at a time.
+fn max_from_in_lanes<R: Registers>(elements: &mut [[u8; 4]], first: usize, src: &R)
+    requires within { first + 4 * length elements.old ≤ 2 ^ (R.stored src.now).lg_k }
+    requires legal { IsStored (R.stored src.now) }
+    requires aligned { first % 4 ≡ 0 }
+    ensures { values elements.new ≡ join (values elements.old) (take (4 * length elements.old) (drop first (R.stored src.now).registers)) }
+{
+    let mut at = 0;
+    while at + 16 <= elements.len() {
+        max_64(&mut elements[at..at + 16], first + 4 * at, src);
+        at += 16;
+    }
+    if at < elements.len() {
+        max_part::<64, R>(&mut elements[at..], first + 4 * at, src);
+    }
+}
+
+/// Takes the maximum of 64 registers and of the source's registers from `first` on. The compiler keeps them in lanes.
+#[inline(always)]
+fn max_64<R: Registers>(elements: &mut [[u8; 4]], first: usize, src: &R)
+    requires size { length elements.old ≡ 16 }
+    requires within { first + 64 ≤ 2 ^ (R.stored src.now).lg_k }
+    requires legal { IsStored (R.stored src.now) }
+    requires aligned { first % 4 ≡ 0 }
+    ensures { values elements.new ≡ join (values elements.old) (take (4 * length elements.old) (drop first (R.stored src.now).registers)) }
+{
+    let mut registers = read_64(elements);
+    src.max_into(first as u32, &mut registers);
+    write_64(elements, &registers);
+}
+
+/// Returns the 64 registers of sixteen elements.
+#[inline(always)]
+fn read_64(elements: &[[u8; 4]]) -> [u8; 64]
+    requires { length elements.now ≡ 16 }
+    ensures { result ≡ values elements.now }
+{
+    match elements.as_flattened().as_array::<64>() {
+        Some(registers) => *registers,
+        None => [0; 64],
+    }
+}
+
+/// Writes 64 registers over sixteen elements.
+// (an assignment of arrays: `copy_from_slice` compares addresses, and then the compiler keeps the registers in memory)
+#[inline(always)]
+fn write_64(elements: &mut [[u8; 4]], registers: &[u8; 64])
+    requires { length elements.old ≡ 16 }
+    ensures { values elements.new ≡ registers.now }
+{
+    let (chunks, _) = registers.as_chunks::<4>();
+    if let Some(from) = chunks.as_array::<16>()
+        && let Some(to) = elements.as_mut_array::<16>()
+    {
+        *to = *from;
+    }
 }
 
 /// Takes the maximum as `max_with` does, with one block of the source's registers after the other.
@@ -170,20 +260,21 @@ fn max_from<R: Registers>(elements: &mut [[u8; 4]], first: usize, src: &R)
     let mut at = 0;
     while at < elements.len() {
         let end = (at + PART).min(elements.len());
-        max_part(&mut elements[at..end], first + 4 * at, src);
+        max_part::<16384, R>(&mut elements[at..end], first + 4 * at, src);
         at = end;
     }
 }
 
-/// Takes the maximum of at most 2^14 registers and of the source's registers from `first` on, in a copy.
-fn max_part<R: Registers>(elements: &mut [[u8; 4]], first: usize, src: &R)
-    requires few { length elements.old ≤ 4096 }
+/// Takes the maximum of at most `N` registers and of the source's registers from `first` on, in a copy.
+fn max_part<const N: usize, R: Registers>(elements: &mut [[u8; 4]], first: usize, src: &R)
+    requires few { 4 * length elements.old ≤ N }
+    requires small { N < 2 ^ 32 }
     requires within { first + 4 * length elements.old ≤ 2 ^ (R.stored src.now).lg_k }
     requires legal { IsStored (R.stored src.now) }
     requires aligned { first % 4 ≡ 0 }
     ensures { values elements.new ≡ join (values elements.old) (take (4 * length elements.old) (drop first (R.stored src.now).registers)) }
 {
-    let mut registers = [0; 16384];
+    let mut registers = [0; N];
     let copy = &mut registers[..4 * elements.len()];
     copy.copy_from_slice(elements.as_flattened());
     src.max_into(first as u32, copy);
@@ -248,6 +339,7 @@ fn max_few(elements: &mut [[u8; 4]], others: &[[u8; 4]])
 }
 
 /// Writes all registers.
+#[inline(always)]
 fn write_all(elements: &mut [[u8; 4]], registers: &[u8])
     requires { length registers.now ≡ 4 * length elements.old }
     ensures { values elements.new ≡ registers.now }
