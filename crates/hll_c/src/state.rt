@@ -34,7 +34,7 @@ use hll_sketch::coupon_images::coupon_image;
 use hll_sketch::max_registers::sketch_with_state;
 use hll_sketch::stage::stage;
 use hll_state::header::{CouponTable, HEADER_LEN, Header, Held};
-use hll_state::memory::{Begun, begin, close, resolve};
+use hll_state::memory::{Begun, begin, close, has_raised, resolve};
 use hll_state::registers::small_registers;
 use std::alloc::Global;
 
@@ -117,11 +117,15 @@ pub(crate) fn add_coupons(state: &mut [[u8; 4]], coupons: &[u32], size: &mut usi
 pub(crate) fn add_value(state: &mut [[u8; 4]], value: &[u8], size: &mut usize) -> u8
     ensures { AddsToState (Unit {0}) (coupon_of_bytes value.now ∷ []) state.old state.new size.old size.new result }
 {
+    let raw = Coupon::from_bytes(value).raw();
+    if has_raised(state, raw) {
+        return OK;
+    }
     match begin(state, 1) {
         Begun::NoState => Reason::Argument.number(),
         Begun::NoRoom(len) => too_small(len, size),
         Begun::Room(mut header) => {
-            header.push(&mut state[HEADER_LEN..], Coupon::from_bytes(value).raw());
+            header.push(&mut state[HEADER_LEN..], raw);
             close(state, header);
             OK
         }

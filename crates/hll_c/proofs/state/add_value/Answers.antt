@@ -5,6 +5,7 @@ use Rattle.hll_coupons.specs.Hashed.{coupon_of_bytes}
 use Rattle.hll_sketch.specs.Laws.{add_in_turn}
 use Rattle.hll_state.specs.Counter.{sketch_in}
 use Rattle.hll_state.specs.Header.{IsWithin}
+use Rattle.hll_state.specs.Memory.{IsStateOf}
 use Rattle.hll_state.proofs.States.{ready_within, ready_room, written_size, written_within, closed, enough_fits}
 use Rattle.hll_c.specs.States.{AddsToState, added, no_room, not_added}
 use Rattle.hll_c.proofs.state.add_value.Goals as goal
@@ -38,8 +39,16 @@ returns-in-NoRoom c =
 
 pub returns-in-Room : goal.returns-in-Room
 returns-in-Room c =
-    let raw : c.raw.result ≡ coupon_of_bytes c.args.value.now = c.raw.ensures ∙ c.from_bytes.ensures.bytes in
+    let raw : c.raw-raw.result ≡ coupon_of_bytes c.args.value.now = c.raw-raw.ensures ∙ c.from_bytes.ensures.bytes in
     added tt
     (closed 1 c.args.state.now c.begin.new.elements c.in-Room.header c.in-Room.ensures c.begin.auto.elements (λ x. add_in_turn x (coupon_of_bytes c.args.value.now ∷ []))
     c.push.new.self c.push.new.body c.close.new.elements (c.push.ensures.added ∙ ap (λ n. add_in_turn (sketch_in c.in-Room.header (mid_of 10 (length c.begin.new.elements - 10) c.begin.new.elements)) (n ∷ [])) raw) c.close.ensures.header c.close.ensures.rest)
+    refl
+
+pub returns-then-has_raised : goal.returns-then-has_raised
+returns-then-has_raised c =
+    let raw : c.raw-raw.result ≡ coupon_of_bytes c.args.value.now = c.raw-raw.ensures ∙ c.from_bytes.ensures.bytes in
+    let of = c.has_raised.ensures c.if-has_raised.true in
+    added tt
+    (record { sketch = of.sketch; was = of.was; is = subst (IsStateOf c.args.state.now) (sym (ap (λ n. add_in_turn of.sketch (n ∷ [])) (sym raw) ∙ of.is)) of.was })
     refl
