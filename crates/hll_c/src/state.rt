@@ -5,7 +5,10 @@ ghost use Rattle.hll_base.specs.declared.error.Reason.TheVariants.{Memory};
 ghost use Rattle.hll_base.specs.declared.error.Reason.TheVariants as reasons;
 ghost use Rattle.hll_coupons.specs.Hashed.{coupon_of_bytes};
 ghost use Rattle.hll_kernels.specs.Packed.{AreRegisters};
+ghost use Rattle.hll_base.specs.declared.hll_type.HllType.TheVariants.{Hll8};
 ghost use Rattle.hll_sketch.specs.EstimatorFields.{FillsFields};
+ghost use Rattle.hll_sketch.specs.RegisterImages.{FillsState};
+ghost use Rattle.hll_sketch.specs.Value as contents;
 ghost use Rattle.hll_sketch.specs.Laws.{add_in_turn};
 ghost use Rattle.hll_sketch.specs.Stage as stages;
 ghost use Rattle.hll_sketch.specs.Value.{IsLgK, IsLegal};
@@ -30,6 +33,9 @@ use crate::estimate::{HllEstimate, estimate_of_coupons, estimate_of_registers};
 use hll_base::error::{Error, Reason};
 use hll_base::hll_type::HllType;
 use hll_coupons::coupon::Coupon;
+use hll_registers::estimate_state::EstimateState;
+use hll_registers::register_slice::RegisterSlice;
+use hll_registers::registers::Registers;
 use hll_sketch::coupon_images::coupon_image;
 use hll_sketch::max_registers::sketch_with_state;
 use hll_sketch::stage::stage;
@@ -189,6 +195,9 @@ fn image_of_held(
         Held::Coupons(coupons) => image_of_coupons(alloc, header.lg_k, hll_type, coupons, body),
         Held::Registers(estimate_state) => {
             let registers = small_registers(body, header.lg_k)?;
+            if hll_type == HllType::Hll8 {
+                return image_of_registers(alloc, header.lg_k, registers, estimate_state);
+            }
             image_with_fields(sketch_with_state(
                 alloc,
                 header.lg_k,
@@ -197,6 +206,37 @@ fn image_of_held(
                 estimate_state,
             )?)
         }
+    }
+}
+
+/// Returns the image of 8-bit registers, with their estimator fields set if their estimate state is cleared. The registers are
+/// copied once, into the image.
+///
+/// Fails with `Memory`.
+fn image_of_registers(
+    alloc: Global,
+    lg_k: u8,
+    registers: &[u8],
+    state: EstimateState,
+) -> Result<Vec<u8>, Error>
+    requires lg_k { IsLgK lg_k }
+    requires registers { AreRegisters lg_k registers.now }
+    ensures ok { IfOk result (λ image. IsImageOf (FillsFields (record { lg_k = lg_k; width = Hll8; content = contents.registers registers.now state })) image.items) }
+    ensures err { IfErr result (λ e. e ≡ Memory) }
+{
+    let source = RegisterSlice::new(lg_k, registers).with_state(state);
+    source.image_with(alloc, filled_state(&source))
+}
+
+/// Returns the estimate state of registers, or, if that is cleared, the state with the estimator fields of the registers.
+fn filled_state(source: &RegisterSlice<'_>) -> EstimateState
+    ensures { FillsState source.now result }
+{
+    let state = source.estimate_state();
+    if state == EstimateState::CLEARED {
+        source.estimator_fields()
+    } else {
+        state
     }
 }
 
