@@ -17,7 +17,10 @@ use crate::registers::{Registers, two_to};
 use crate::same_registers::{are_all_in, have_same_registers};
 use hll_base::error::{Error, Reason};
 use hll_kernels::kernels::{WeightSums, all_zero};
-use hll_kernels::nibbles::{count_mark_nibbles, count_zero_nibbles, count_zeros_and_marks};
+use hll_kernels::nibbles::{
+    MARK, are_at_most, count_mark_nibbles, count_zero_nibbles, count_zeros_and_marks,
+    max_with_nibbles,
+};
 use std::alloc::Allocator;
 use std::marker::Model;
 
@@ -266,5 +269,19 @@ impl<'a, A: Allocator> Registers for NibbleSlice<'a, A> {
             self.lg_k,
             self.minimum,
         );
+    }
+
+    /// Returns false if one of the registers may be an exception.
+    #[inline(always)]
+    fn max_block_into(&self, first: u32, values: &mut [u8; 64]) -> bool {
+        let start = first as usize / 2;
+        let Some(block) = self.nibbles[start..start + 32].as_array::<32>() else {
+            return false;
+        };
+        if !are_at_most(block, MARK - 1) {
+            return false;
+        }
+        max_with_nibbles(values, block, self.minimum);
+        true
     }
 }

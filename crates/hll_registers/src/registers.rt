@@ -1,6 +1,6 @@
 // SPDX-License-Identifier: Apache-2.0
 //! Registers that can be read, however they are stored (docs/MODEL.md, "Laws of a store").
-ghost use Rattle.std.specs.Prelude.{◌≡◌, ◌+◌, ◌%◌, ◌^◌, ◌<◌, ◌≤◌, ◌==◌, if◌then◌else◌, length, take, drop, slice_index, Some, None, IfSome};
+ghost use Rattle.std.specs.Prelude.{◌≡◌, ◌+◌, ◌%◌, ◌^◌, ◌<◌, ◌≤◌, ◌==◌, true, false, if◌then◌else◌, length, take, drop, slice_index, Some, None, IfSome};
 ghost use Rattle.hll_base.specs.Join.{join};
 ghost use Rattle.hll_kernels.specs.Packed as packed;
 ghost use Rattle.hll_registers.specs.Store.{Stored, IsStored};
@@ -113,6 +113,22 @@ pub trait Registers {
             let register = self.get(first + index as u32);
             values[index] = values[index].max(register);
         }
+    }
+
+    /// Sets value i to the maximum of itself and register `first + i`, and returns true; or changes nothing and returns
+    /// false, if `max_into` would look at something that all registers share. A loop over blocks calls this function,
+    /// and `max_into` only for the blocks for which it returns false.
+    ///
+    /// These registers exist, and `first` is a multiple of four.
+    fn max_block_into(&self, first: u32, values: &mut [u8; 64]) -> bool
+        requires within { first + 64 ≤ 2 ^ (stored self.now).lg_k }
+        requires legal { IsStored (stored self.now) }
+        requires aligned { first % 4 ≡ 0 }
+        ensures joined { result ≡ true → values.new ≡ join values.old (take 64 (drop first (stored self.now).registers)) }
+        ensures unchanged { result ≡ false → values.new ≡ values.old }
+    {
+        self.max_into(first, values);
+        true
     }
 }
 

@@ -36,9 +36,9 @@ impl Header {
                 self.merge_coupons(body, coupons.lg_k, coupons.lg_size, coupons.elements)
             }
             BorrowedImage::Table(sketch) => self.merge_sketch(body, sketch),
-            BorrowedImage::Nibbles(registers) => self.merge_registers(body, registers, false),
-            BorrowedImage::Groups(registers) => self.merge_registers(body, registers, true),
-            BorrowedImage::Bytes(registers) => self.merge_registers(body, registers, true),
+            BorrowedImage::Nibbles(registers) => self.merge_registers(body, registers),
+            BorrowedImage::Groups(registers) => self.merge_registers(body, registers),
+            BorrowedImage::Bytes(registers) => self.merge_registers(body, registers),
         }
     }
 
@@ -67,9 +67,9 @@ impl Header {
                 table.table_is_legal();
                 self.merge_table(body, lg_k, table)
             }
-            Mode::Array4(array) => self.merge_registers(body, array, false),
-            Mode::Array6(array) => self.merge_registers(body, array, true),
-            Mode::Array8(array) => self.merge_registers(body, array, true),
+            Mode::Array4(array) => self.merge_registers(body, array),
+            Mode::Array6(array) => self.merge_registers(body, array),
+            Mode::Array8(array) => self.merge_registers(body, array),
         }
     }
 }

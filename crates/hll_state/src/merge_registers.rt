@@ -20,13 +20,7 @@ impl Header {
     /// both. Returns whether there was room. If there was none, the sketch of the state is unchanged.
     ///
     /// An empty state copies the estimate state, if the `lg_k` of the source is at most its own.
-    /// `in_lanes` is for a source that is fast in small blocks: it has no exceptions.
-    pub fn merge_registers<R: Registers>(
-        &mut self,
-        body: &mut [[u8; 4]],
-        src: &R,
-        in_lanes: bool,
-    ) -> bool
+    pub fn merge_registers<R: Registers>(&mut self, body: &mut [[u8; 4]], src: &R) -> bool
         requires { IsWithin self.old (length body.old) }
         ensures within { IsWithin self.new (length body.old) }
         ensures merged { let x = R.stored src.now in
@@ -43,7 +37,7 @@ impl Header {
         if !self.make_registers(body, lg_k) {
             return false;
         }
-        max_with(&mut body[..two_to(lg_k - 2)], lg_k, src, in_lanes);
+        max_with(&mut body[..two_to(lg_k - 2)], lg_k, src);
         self.lg_k = lg_k;
         self.held = Held::Registers(state_after_merge(is_empty, bound, src));
         true

@@ -124,10 +124,10 @@ fn make_registers(elements: &mut [[u8; 4]], lg_k: u8, coupons: &[[u8; 4]])
 /// Takes the maximum of 2^`lg_k` registers, four in an element, and of the source's registers that fold to them: register s of
 /// the source folds to register s modulo 2^`lg_k`.
 ///
-/// `lg_k` is 4 to 21, and at most the source's. It takes one pass over the source: in lanes, 2^6 registers at a time, if the
-/// source has the same `lg_k` and is fast in small blocks; otherwise in blocks of 2^14 registers or more, which take 4 to 32
-/// kilobytes of the stack.
-pub fn max_with<R: Registers>(elements: &mut [[u8; 4]], lg_k: u8, src: &R, in_lanes: bool)
+/// `lg_k` is 4 to 21, and at most the source's. It takes one pass over the source. If the source has the same `lg_k` and is fast
+/// in small blocks, it goes in lanes, 64 registers at a time. Otherwise it goes in blocks of 2^14 registers, or more if small
+/// blocks are expensive, and uses 4 to 32 kilobytes of the stack.
+pub fn max_with<R: Registers>(elements: &mut [[u8; 4]], lg_k: u8, src: &R)
     requires least { 4 ≤ lg_k }
     requires most { lg_k ≤ (R.stored src.now).lg_k }
     requires size { length elements.old ≡ 2 ^ (lg_k - 2) }
@@ -136,7 +136,7 @@ pub fn max_with<R: Registers>(elements: &mut [[u8; 4]], lg_k: u8, src: &R, in_la
 {
     if elements.len() < 16 {
         max_in_copy::<64, R>(elements, lg_k, src);
-    } else if in_lanes && src.lg_k() == lg_k {
+    } else if src.lg_k() == lg_k && !src.is_slow_in_small_blocks() {
         max_in_lanes(elements, lg_k, src);
     } else if elements.len() <= SMALL_PART {
         max_in_copy::<4096, R>(elements, lg_k, src);
@@ -195,7 +195,8 @@ fn max_from_in_lanes<R: Registers>(elements: &mut [[u8; 4]], first: usize, src: 
     }
 }
 
-/// Takes the maximum of 64 registers and of the source's registers from `first` on. The compiler keeps them in lanes.
+/// Takes the maximum of 64 registers and of the source's registers from `first` on. The compiler keeps them in lanes, unless the
+/// source can't read its block by itself.
 #[inline(always)]
 fn max_64<R: Registers>(elements: &mut [[u8; 4]], first: usize, src: &R)
     requires size { length elements.old ≡ 16 }
@@ -205,8 +206,11 @@ fn max_64<R: Registers>(elements: &mut [[u8; 4]], first: usize, src: &R)
     ensures { values elements.new ≡ join (values elements.old) (take (4 * length elements.old) (drop first (R.stored src.now).registers)) }
 {
     let mut registers = read_64(elements);
-    src.max_into(first as u32, &mut registers);
-    write_64(elements, &registers);
+    if src.max_block_into(first as u32, &mut registers) {
+        write_64(elements, &registers);
+    } else {
+        max_part::<64, R>(elements, first, src);
+    }
 }
 
 /// Returns the 64 registers of sixteen elements.

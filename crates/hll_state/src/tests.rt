@@ -392,7 +392,7 @@ fn raise_by_bytes(elements: &mut [[u8; 4]], lg_k: u8, from: u8, registers: &[u8]
     if registers.len() != two_to(from) || !are_small(registers) {
         return false;
     }
-    max_with(elements, lg_k, &RegisterSlice::new(from, registers), true);
+    max_with(elements, lg_k, &RegisterSlice::new(from, registers));
     true
 }
 
@@ -407,7 +407,7 @@ fn raise_by_groups(elements: &mut [[u8; 4]], lg_k: u8, from: u8, groups: &[[u8; 
     if groups.len() != two_to(from - 2) {
         return false;
     }
-    max_with(elements, lg_k, &GroupSlice::new(from, groups), true);
+    max_with(elements, lg_k, &GroupSlice::new(from, groups));
     true
 }
 
@@ -430,7 +430,7 @@ fn raise_by_nibbles(
     let exceptions: Exceptions<Global> = None;
     match NibbleSlice::from_parts(from, 0, nibbles, exceptions, Use::Join) {
         Ok(source) => {
-            max_with(elements, lg_k, &source, false);
+            max_with(elements, lg_k, &source);
             true
         }
         Err(_) => false,
