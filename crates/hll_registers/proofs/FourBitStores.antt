@@ -1,14 +1,13 @@
 -- SPDX-License-Identifier: Apache-2.0
 -- 4-bit registers as a store: their size, equality and image.
 use Rattle.std.proofs.Common.{◌≡◌, ◌≢◌, ℕ, ◌+◌, ◌-◌, ◌*◌, ◌/◌, ◌%◌, ◌^◌, ◌<◌, ◌≤◌, zero, suc, All, take, drop, Bool, true, false, eqb, cond, List, [], ◌∷◌, ◌++◌, Option, None, length, get_or, refl, sym, ap, subst, ◌∙◌, arith, inl, inr, append_assoc}
-use Rattle.std.specs.Prelude.{◌&&◌, nat_eq, nat_le, filter, count_by, max, unwrap_or}
-use Rattle.std.specs.List.{list_all}
+use Rattle.std.specs.Prelude.{nat_eq, filter, count_by, max, unwrap_or}
 use Rattle.std.specs.Ordering.{nat_cmp}
 use Rattle.std.specs.Cmp.{nat_cmp_total, both_ways}
 use Rattle.std.specs.Cmp.Lexicographic.{pointwise}
 use Rattle.std.specs.FinSet.{contains, len, len-empty, len-insert}
 use lib.Pointwise.{bytes_decides}
-use Rattle.std.proofs.lemmas.Bool.{cases_Bool, cases_lt, leb-true}
+use Rattle.std.proofs.lemmas.Bool.{cases_Bool, cases_lt}
 use Rattle.std.proofs.lemmas.List.{ext_get_or, get_or-drop, get_or-take, length-drop, length-take-le}
 use Rattle.std.proofs.lemmas.List.Elements.{All-drop, All-tail, All-take}
 use Rattle.std.proofs.lemmas.Nat.{pow_pos}
@@ -33,7 +32,7 @@ use Rattle.hll_registers.specs.declared.estimate_state.EstimateState.{EstimateSt
 use Rattle.hll_registers.proofs.Exceptions.{kept}
 use Rattle.hll_registers.proofs.FourBits.{exception_of-high, exception_of-low, packed_is_of_registers}
 use Rattle.hll_registers.proofs.FourBitChanges.{attained, count_some, zero_nibbles_are}
-use Rattle.hll_registers.proofs.FourBitReading.{AgreeAbove, at, both_true, legal}
+use Rattle.hll_registers.proofs.FourBitReading.{AgreeAbove, at, legal}
 use Rattle.hll_kernels.proofs.FourBitLanes.{length-nibble_bytes_above}
 use Rattle.hll_kernels.proofs.SingleNibbles.{nibble_at-high, nibble_at-low, nibble_at-tail}
 use Rattle.hll_base.proofs.Joins.{get_or-join}
@@ -267,10 +266,3 @@ values-unmarked {k} {m} {bytes} {e} p first n part within aligned groups is smal
     let there : get_or V s 0 ≡ r = get_or-take n (drop first R) s 0 within_part ∙ get_or-drop first R s 0 in
     let least : m ≤ r = (at p (first + s) (omega (arith, within_part, within))).least in
     nibble_values-at m B s fits (omega (arith, within_part, half)) ∙ omega (arith, nibble_is, value, low, there, least))
-
--- nibbles that are at most 14 are below 15
-pub unmarked_values : (B : List ℕ) → list_all (λ b. nat_le (b % 16) 14 && nat_le (b / 16) 14) B ≡ true → All (λ n. n < 15) (nibble_values 0 B)
-unmarked_values [] all i d l = absurd (omega (arith, l))
-unmarked_values (b ∷ B) all zero d l = omega (arith, leb-true (b % 16) 14 (both_true _ _ (both_true _ _ all).0).0)
-unmarked_values (b ∷ B) all (suc zero) d l = omega (arith, leb-true (b / 16) 14 (both_true _ _ (both_true _ _ all).0).1)
-unmarked_values (b ∷ B) all (suc (suc i)) d l = unmarked_values B (both_true _ _ all).1 i d (omega (arith, l))

@@ -4,12 +4,13 @@
 use Rattle.std.specs.Prelude.{◌≡◌, ◌≢◌, ℕ, Bool, true, ◌+◌, ◌-◌, ◌*◌, ◌^◌, ◌<◌, ◌≤◌, ◌==◌, nat_le, if◌then◌else◌, List, length, map, slice_index, count_by, ◌++◌, All, Option, Some, None, Box}
 use Rattle.std.specs.List.{fold, range_with_len}
 use Rattle.std.specs.FinSet.{empty}
-use Rattle.hll_coupons.specs.AuxMap.{ExceptionMap, IsMap, value_in}
+use Rattle.std.specs.Option.{option_map}
+use Rattle.hll_coupons.specs.AuxMap.{ExceptionMap, IsMap, entries_in, value_in}
 use Rattle.hll_coupons.specs.Pair.{Pairs, set_of}
 use Rattle.hll_coupons.specs.Table.{coupons_in, coupons_of}
 use Rattle.hll_kernels.specs.Packed.{nibble, nibble_at, nibble_bytes, minimum, count_at_minimum}
 use Rattle.hll_registers.specs.Exceptions.{exceptions}
-use Rattle.hll_registers.specs.Payload.{register_of}
+use Rattle.hll_registers.specs.Payload.{register_of, Agrees}
 use Rattle.hll_kernels.specs.Packed.{AreRegisters}
 use Rattle.hll_registers.specs.Store.{Stored, zero_registers, update_with_coupon}
 
@@ -55,6 +56,16 @@ unpacked k m bytes e = map (λ s. register_of m (nibble_at bytes s) (exception_i
 abbrev pub IsMapFor : ℕ → Option ExceptionMap → Type 0
 IsMapFor k None = Unit {0}
 IsMapFor k (Some t) = IsMap t × (t.lg_k ≡ k) × (0 < length (coupons_in t.table.buckets))
+
+-- 4-bit registers as they are read: nibbles above a minimum, and the entries of a map of exceptions, if there is one
+pub record ArePartsOf (k m : ℕ) (bytes : List ℕ) (entries : Option (List (ℕ × ℕ))) (R : List ℕ) : Type 0 where
+  pub exceptions : Option ExceptionMap
+  pub entries_are : entries ≡ option_map entries_in exceptions
+  pub size : 2 * length bytes ≡ 2 ^ k
+  pub fits : All (λ b. b < 256) bytes
+  pub map_for : IsMapFor k exceptions
+  pub agree : (s : ℕ) → s < 2 ^ k → Agrees m (nibble_at bytes s) (exception_in exceptions s)
+  pub registers_are : R ≡ unpacked k m bytes exceptions
 
 -- some register is at the minimum, and the count, the nibbles and the exceptions are those of the registers above it
 pub record IsPacked (k m n : ℕ) (bytes : List ℕ) (e : Option ExceptionMap) (R : List ℕ) : Type 0 where

@@ -3,7 +3,8 @@
 ghost use Rattle.std.specs.Prelude.{◌≡◌, ◌≢◌, ◌+◌, ◌-◌, ◌*◌, ◌^◌, ◌%◌, ◌++◌, ◌<◌, ◌≤◌, ◌==◌, ◌↔◌, ◌⊎◌, ℕ, if◌then◌else◌, length, take, drop, slice_index, unwrap_or, All, true, false, None, Some, IsOk, IsTrue, IfOk, IfErr, IfSome, OnOk, OnErr};
 ghost use Rattle.hll_base.specs.declared.error.Reason.TheVariants.{Memory};
 ghost use Rattle.std.specs.FinSet.{len};
-ghost use Rattle.hll_coupons.specs.AuxMap.{table_bytes, value_in, ExceptionMap, IsMap};
+ghost use Rattle.std.specs.Option.{option_map};
+ghost use Rattle.hll_coupons.specs.AuxMap.{entries_in, table_bytes, value_in, ExceptionMap, IsMap};
 ghost use Rattle.hll_base.specs.Join.{join};
 ghost use Rattle.hll_coupons.specs.Coupons.{coupon_bytes, WritesAscending};
 ghost use Rattle.hll_registers.specs.FourBits.{unboxed, exception_in, exception_of, exceptions_in, fallen, kept_above, unpacked, IsMapFor, IsSlotOf};
@@ -13,7 +14,7 @@ ghost use Rattle.hll_kernels.specs.Packed.{lowered_by, nibble, nibble_at, AreReg
 use crate::exception_maxima::max_with_exceptions;
 use hll_base::codec::SketchBytes;
 use hll_base::error::Error;
-use hll_coupons::aux_map::AuxMap;
+use hll_coupons::aux_map::{AuxMap, AuxMapRefIter};
 use hll_coupons::aux_map_builder::AuxMapBuilder;
 use hll_coupons::container::with_coupons;
 use hll_kernels::kernels::are_below;
@@ -68,6 +69,17 @@ pub(crate) fn has_many_buckets<A: Allocator>(map: &Exceptions<A>) -> bool {
     match map {
         Some(map) => map.estimated_size() > 1 << 13,
         None => false,
+    }
+}
+
+/// Returns an iterator over the slots and values of the exceptions, in the order of their buckets, or `None` if there is no
+/// map.
+pub(crate) fn entries_of<A: Allocator>(map: &Exceptions<A>) -> Option<AuxMapRefIter<'_>>
+    ensures { result ≡ option_map entries_in (unboxed map.now) }
+{
+    match map {
+        Some(map) => Some(map.iter()),
+        None => None,
     }
 }
 

@@ -10,17 +10,17 @@ ghost use Rattle.hll_registers.specs.State.{cleared_state, IsState};
 
 use crate::agreement::agree;
 use crate::estimate_state::EstimateState;
-use crate::exception_map::{Exceptions, has_many_buckets, max_with_registers, register_at};
+use crate::exception_map::{
+    Exceptions, entries_of, has_many_buckets, max_with_registers, register_at,
+};
+use crate::nibble_parts::NibbleParts;
 use crate::nibble_registers::NibbleRegisters;
 use crate::nibble_sums::sums_of_few;
 use crate::registers::{Registers, two_to};
 use crate::same_registers::{are_all_in, have_same_registers};
 use hll_base::error::{Error, Reason};
 use hll_kernels::kernels::{WeightSums, all_zero};
-use hll_kernels::nibbles::{
-    MARK, are_at_most, count_mark_nibbles, count_zero_nibbles, count_zeros_and_marks,
-    max_with_nibbles,
-};
+use hll_kernels::nibbles::{count_mark_nibbles, count_zero_nibbles, count_zeros_and_marks};
 use std::alloc::Allocator;
 use std::marker::Model;
 
@@ -271,17 +271,11 @@ impl<'a, A: Allocator> Registers for NibbleSlice<'a, A> {
         );
     }
 
-    /// Returns false if one of the registers may be an exception.
-    #[inline(always)]
-    fn max_block_into(&self, first: u32, values: &mut [u8; 64]) -> bool {
-        let start = first as usize / 2;
-        let Some(block) = self.nibbles[start..start + 32].as_array::<32>() else {
-            return false;
-        };
-        if !are_at_most(block, MARK - 1) {
-            return false;
-        }
-        max_with_nibbles(values, block, self.minimum);
-        true
+    fn nibble_parts(&self) -> Option<NibbleParts<'_>> {
+        Some(NibbleParts {
+            minimum: self.minimum,
+            nibbles: self.nibbles,
+            exceptions: entries_of(&self.exceptions),
+        })
     }
 }

@@ -1,13 +1,15 @@
 // SPDX-License-Identifier: Apache-2.0
 //! Registers that can be read, however they are stored (docs/MODEL.md, "Laws of a store").
-ghost use Rattle.std.specs.Prelude.{◌≡◌, ◌+◌, ◌%◌, ◌^◌, ◌<◌, ◌≤◌, ◌==◌, true, false, if◌then◌else◌, length, take, drop, slice_index, Some, None, IfSome};
+ghost use Rattle.std.specs.Prelude.{◌≡◌, ◌+◌, ◌%◌, ◌^◌, ◌<◌, ◌≤◌, ◌==◌, if◌then◌else◌, length, take, drop, slice_index, Some, None, IfSome};
 ghost use Rattle.hll_base.specs.Join.{join};
 ghost use Rattle.hll_kernels.specs.Packed as packed;
+ghost use Rattle.hll_registers.specs.FourBits.{ArePartsOf};
 ghost use Rattle.hll_registers.specs.Store.{Stored, IsStored};
 ghost use Rattle.hll_kernels.specs.WeightSums.{AreSumsOf};
 ghost use Rattle.hll_registers.specs.EstimatorFields.{AreEstimatorFields};
 
 use crate::estimate_state::EstimateState;
+use crate::nibble_parts::NibbleParts;
 use hll_kernels::kernels::{WeightSums, weight_sums};
 
 /// 2^`lg_k` registers of 0 to 63, and their estimate state. No call allocates.
@@ -115,20 +117,12 @@ pub trait Registers {
         }
     }
 
-    /// Sets value i to the maximum of itself and register `first + i`, and returns true; or changes nothing and returns
-    /// false, if `max_into` would look at something that all registers share. A loop over blocks calls this function,
-    /// and `max_into` only for the blocks for which it returns false.
-    ///
-    /// These registers exist, and `first` is a multiple of four.
-    fn max_block_into(&self, first: u32, values: &mut [u8; 64]) -> bool
-        requires within { first + 64 ≤ 2 ^ (stored self.now).lg_k }
-        requires legal { IsStored (stored self.now) }
-        requires aligned { first % 4 ≡ 0 }
-        ensures joined { result ≡ true → values.new ≡ join values.old (take 64 (drop first (stored self.now).registers)) }
-        ensures unchanged { result ≡ false → values.new ≡ values.old }
+    /// Returns the nibbles and the exceptions of the registers, if they are stored so. The maximum with all registers is
+    /// then taken over the nibbles first, and over each exception afterwards.
+    fn nibble_parts(&self) -> Option<NibbleParts<'_>>
+        ensures { IfSome result (λ p. ArePartsOf (stored self.now).lg_k p.minimum p.nibbles.now p.exceptions (stored self.now).registers) }
     {
-        self.max_into(first, values);
-        true
+        None
     }
 }
 

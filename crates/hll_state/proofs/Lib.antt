@@ -8,6 +8,7 @@ pub mod MergedRegisters
 pub mod MergedStates
 pub mod MergedTables
 pub mod Merging
+pub mod NibbleParts
 pub mod Numbers
 pub mod Parts
 pub mod Promoting

@@ -4,6 +4,7 @@ ghost use Rattle.std.specs.Prelude.{◌≡◌, ℕ, ◌+◌, ◌-◌, ◌^◌, �
 ghost use Rattle.hll_coupons.specs.Pair.{Pairs, set_of};
 ghost use Rattle.hll_registers.specs.State.{state_after};
 ghost use Rattle.hll_sketch.specs.Adding.{add, content_with};
+ghost use Rattle.hll_sketch.specs.Laws.{add_in_turn};
 ghost use Rattle.hll_sketch.specs.Value.{IsLgK};
 ghost use Rattle.hll_state.specs.Counter.{sketch_in, content_of, IsHeldResolved, IsResolved};
 ghost use Rattle.hll_state.specs.Header as spec;
@@ -12,7 +13,7 @@ ghost use Rattle.hll_state.specs.Merged.{used_in};
 ghost use Rattle.hll_state.specs.Registers.{values};
 
 use crate::header::{CouponTable, Header, Held, most_used};
-use crate::registers::{promote, raise};
+use crate::registers::{is_raised, promote, raise};
 use hll_registers::estimate_state::EstimateState;
 use hll_registers::registers::two_to;
 use hll_sketch::stage::stage;
@@ -35,6 +36,18 @@ impl Header {
         }
     }
 
+    /// Returns whether there are registers of which the coupon's is at least the coupon's value.
+    #[inline(always)]
+    pub(crate) fn has_raised(&self, body: &[[u8; 4]], raw: u32) -> bool
+        requires { IsWithin self.now (length body.now) }
+        ensures { result ≡ true → add_in_turn (sketch_in self.now body.now) (raw ∷ []) ≡ sketch_in self.now body.now }
+    {
+        match self.held {
+            Held::Coupons(_) => false,
+            Held::Registers(_) => is_raised(body, self.lg_k, raw),
+        }
+    }
+
     /// Adds a raw coupon, as to a sketch. There is room for it.
     #[inline(always)]
     pub fn push(&mut self, body: &mut [[u8; 4]], raw: u32)
@@ -45,6 +58,9 @@ impl Header {
         ensures widths { self.new.widths ≡ self.old.widths }
         ensures room { (n : ℕ) → HasRoom self.old (n + 1) (length body.old) → HasRoom self.new n (length body.old) }
     {
+        if self.has_raised(body, raw) {
+            return;
+        }
         self.leave_element(body);
         self.held = match self.held {
             Held::Coupons(coupons) => Held::Coupons(coupons.with(body, self.lg_k, raw)),

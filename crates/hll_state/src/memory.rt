@@ -10,7 +10,6 @@ ghost use Rattle.hll_state.specs.declared.header.Header.{Header};
 ghost use Rattle.hll_state.specs.Memory.{HasHeader, IsState, OfState, IsOnlyRead, IsBegun};
 
 use crate::header::{HEADER_LEN, Header, Held, elements_for};
-use crate::registers::is_raised;
 use hll_registers::registers::two_to;
 
 /// Reads the header of a state. Returns `None` if the elements are not a state: too few, or not written by calls of this
@@ -99,18 +98,6 @@ pub fn resolve(elements: &mut [[u8; 4]]) -> Option<Header>
 }
 
 impl Header {
-    /// Returns whether there are registers of which the coupon's is at least the coupon's value.
-    #[inline(always)]
-    fn has_raised(&self, body: &[[u8; 4]], raw: u32) -> bool
-        requires { IsWithin self.now (length body.now) }
-        ensures { result ≡ true → add_in_turn (sketch_in self.now body.now) (raw ∷ []) ≡ sketch_in self.now body.now }
-    {
-        match self.held {
-            Held::Coupons(_) => false,
-            Held::Registers(_) => is_raised(body, self.lg_k, raw),
-        }
-    }
-
     /// Returns whether there is room for `count` more coupons. Repeated coupons are dropped first, if there may be many.
     #[inline(always)]
     pub fn make_room(&mut self, body: &mut [[u8; 4]], count: usize) -> bool

@@ -1,12 +1,15 @@
 // SPDX-License-Identifier: Apache-2.0
 //! Registers of a counter in borrowed elements: one byte each, four in an element, in ascending slots. No call allocates.
-ghost use Rattle.std.specs.Prelude.{◌≡◌, ◌*◌, ◌+◌, ◌-◌, ◌%◌, ◌^◌, ◌<◌, ◌≤◌, true, [], ◌∷◌, ◌++◌, drop, length, nat_eq, not, slice_index, slice_set, take, IfOk, IfErr};
+ghost use Rattle.std.specs.Prelude.{◌≡◌, ◌*◌, ◌+◌, ◌-◌, ◌%◌, ◌^◌, ◌<◌, ◌≤◌, true, [], ◌∷◌, ◌++◌, ℕ, List, drop, length, max, nat_eq, not, slice_index, slice_set, take, unwrap_or, IfOk, IfErr};
 ghost use Rattle.std.specs.Cmp.Lexicographic.{pointwise};
 ghost use Rattle.hll_base.specs.Join.{join};
 ghost use Rattle.hll_base.specs.declared.error.Reason.TheVariants as reasons;
+ghost use Rattle.hll_coupons.specs.AuxMap.{entries_in, value_in, ExceptionMap, IsMap};
 ghost use Rattle.hll_coupons.specs.Fold.{fold_to, pairs};
 ghost use Rattle.hll_coupons.specs.Pair.{set_of};
+ghost use Rattle.hll_kernels.specs.Lanes.{nibble_values};
 ghost use Rattle.hll_kernels.specs.Packed.{AreRegisters};
+ghost use Rattle.hll_registers.specs.FourBits.{ArePartsOf};
 ghost use Rattle.hll_registers.specs.Store.{IsStored};
 ghost use Rattle.hll_sketch.specs.Value.{IsLgK};
 ghost use Rattle.hll_state.specs.CouponRun.{IsRun, members, raws};
@@ -16,8 +19,11 @@ use crate::elements::move_to_end;
 use crate::run::CouponRun;
 use hll_base::bounds::{MAX_VALUE, SLOT_BITS};
 use hll_base::error::{Error, Reason};
+use hll_coupons::aux_map::AuxMapRefIter;
 use hll_kernels::kernels::{greatest_of, max_into};
+use hll_kernels::nibbles;
 use hll_registers::folds::max_folds;
+use hll_registers::nibble_parts::NibbleParts;
 use hll_registers::registers::{Registers, two_to};
 
 /// The number of elements that are copied to the stack at a time: 2^14 registers.
@@ -124,9 +130,9 @@ fn make_registers(elements: &mut [[u8; 4]], lg_k: u8, coupons: &[[u8; 4]])
 /// Takes the maximum of 2^`lg_k` registers, four in an element, and of the source's registers that fold to them: register s of
 /// the source folds to register s modulo 2^`lg_k`.
 ///
-/// `lg_k` is 4 to 21, and at most the source's. It takes one pass over the source. If the source has the same `lg_k` and is fast
-/// in small blocks, it goes in lanes, 64 registers at a time. Otherwise it goes in blocks of 2^14 registers, or more if small
-/// blocks are expensive, and uses 4 to 32 kilobytes of the stack.
+/// `lg_k` is 4 to 21, and at most the source's. It takes one pass over the source: in lanes, 64 registers at a time, if the
+/// source has the same `lg_k`; otherwise in blocks of 2^14 registers, or more if small blocks are expensive, which take 4 to 32
+/// kilobytes of the stack.
 pub fn max_with<R: Registers>(elements: &mut [[u8; 4]], lg_k: u8, src: &R)
     requires least { 4 ≤ lg_k }
     requires most { lg_k ≤ (R.stored src.now).lg_k }
@@ -136,8 +142,8 @@ pub fn max_with<R: Registers>(elements: &mut [[u8; 4]], lg_k: u8, src: &R)
 {
     if elements.len() < 16 {
         max_in_copy::<64, R>(elements, lg_k, src);
-    } else if src.lg_k() == lg_k && !src.is_slow_in_small_blocks() {
-        max_in_lanes(elements, lg_k, src);
+    } else if src.lg_k() == lg_k {
+        max_with_same_size(elements, lg_k, src);
     } else if elements.len() <= SMALL_PART {
         max_in_copy::<4096, R>(elements, lg_k, src);
     } else if elements.len() <= PART {
@@ -162,6 +168,91 @@ fn max_in_copy<const N: usize, R: Registers>(elements: &mut [[u8; 4]], lg_k: u8,
     copy.copy_from_slice(elements.as_flattened());
     max_folds(copy, lg_k, src);
     write_all(elements, copy);
+}
+
+/// Takes the maximum as `max_with` does, in lanes, if the source has the same number of registers, and at least 64.
+fn max_with_same_size<R: Registers>(elements: &mut [[u8; 4]], lg_k: u8, src: &R)
+    requires least { 4 ≤ lg_k }
+    requires same { (R.stored src.now).lg_k ≡ lg_k }
+    requires legal { IsStored (R.stored src.now) }
+    requires size { length elements.old ≡ 2 ^ (lg_k - 2) }
+    requires many { 16 ≤ length elements.old }
+    ensures joined { values elements.new ≡ join (values elements.old) (fold_to (pairs (R.stored src.now).registers) lg_k) }
+    ensures registers { AreRegisters lg_k (values elements.old) → AreRegisters lg_k (values elements.new) }
+{
+    match src.nibble_parts() {
+        Some(parts) => max_with_nibble_parts(elements, lg_k, parts),
+        None => max_in_lanes(elements, lg_k, src),
+    }
+}
+
+/// Takes the maximum of registers and of the same number of 4-bit registers, at least 64: of their nibbles, and then of each
+/// exception.
+fn max_with_nibble_parts(elements: &mut [[u8; 4]], lg_k: u8, parts: NibbleParts<'_>)
+    requires least { 4 ≤ lg_k }
+    requires size { length elements.old ≡ 2 ^ (lg_k - 2) }
+    requires many { 16 ≤ length elements.old }
+    requires parts { (R : List ℕ) × ArePartsOf lg_k parts.minimum parts.nibbles.now parts.exceptions R }
+    ensures { (R : List ℕ) → ArePartsOf lg_k parts.entry.minimum parts.entry.nibbles.now parts.entry.exceptions R → values elements.new ≡ join (values elements.old) R }
+{
+    let NibbleParts {
+        minimum,
+        nibbles,
+        exceptions,
+    } = parts;
+    max_with_nibbles(elements, nibbles, minimum);
+    if let Some(entries) = exceptions {
+        raise_entries(elements, entries);
+    }
+}
+
+/// Takes the maximum of registers and of nibbles above a minimum, 64 at a time.
+fn max_with_nibbles(elements: &mut [[u8; 4]], nibbles: &[u8], minimum: u8)
+    requires size { length nibbles.now ≡ 2 * length elements.old }
+    requires sixteens { length elements.old % 16 ≡ 0 }
+    requires small { minimum ≤ 240 }
+    ensures { values elements.new ≡ join (values elements.old) (nibble_values minimum nibbles.now) }
+{
+    let mut at = 0;
+    while at < elements.len() {
+        let block = &nibbles[2 * at..2 * at + 32];
+        max_with_32_bytes(&mut elements[at..at + 16], block, minimum);
+        at += 16;
+    }
+}
+
+/// Takes the maximum of 64 registers and of 64 nibbles above a minimum. The compiler keeps them in lanes.
+#[inline(always)]
+fn max_with_32_bytes(elements: &mut [[u8; 4]], nibbles: &[u8], minimum: u8)
+    requires size { length elements.old ≡ 16 }
+    requires bytes { length nibbles.now ≡ 32 }
+    requires small { minimum ≤ 240 }
+    ensures { values elements.new ≡ join (values elements.old) (nibble_values minimum nibbles.now) }
+{
+    let mut registers = read_64(elements);
+    nibbles::max_with_nibbles(&mut registers, nibbles, minimum);
+    write_64(elements, &registers);
+}
+
+/// Takes the maximum of registers and of the entries of a map of exceptions, one after the other.
+fn raise_entries(elements: &mut [[u8; 4]], entries: AuxMapRefIter<'_>)
+    ensures raised { (t : ExceptionMap) → IsMap t → entries.entry ≡ entries_in t → (s : ℕ) → s < 4 * length elements.old
+        → slice_index (values elements.new) s ≡ max (slice_index (values elements.old) s) (unwrap_or (value_in t s) 0) }
+    ensures len { (t : ExceptionMap) → IsMap t → entries.entry ≡ entries_in t → length (values elements.new) ≡ length (values elements.old) }
+{
+    for (slot, value) in entries {
+        raise_slot(elements, slot as usize, value);
+    }
+}
+
+/// Takes the maximum of the register of a slot and of a value, if there is such a register.
+fn raise_slot(elements: &mut [[u8; 4]], slot: usize, value: u8)
+    ensures inside { slot < 4 * length elements.old → values elements.new ≡ slice_set (values elements.old) slot (max (slice_index (values elements.old) slot) value) }
+    ensures outside { 4 * length elements.old ≤ slot → elements.new ≡ elements.old }
+{
+    if slot / 4 < elements.len() {
+        set(elements, slot, get(elements, slot).max(value));
+    }
 }
 
 /// Takes the maximum as `max_with` does, with one block of the source's registers after the other, in lanes.
@@ -195,8 +286,7 @@ fn max_from_in_lanes<R: Registers>(elements: &mut [[u8; 4]], first: usize, src: 
     }
 }
 
-/// Takes the maximum of 64 registers and of the source's registers from `first` on. The compiler keeps them in lanes, unless the
-/// source can't read its block by itself.
+/// Takes the maximum of 64 registers and of the source's registers from `first` on. The compiler keeps them in lanes.
 #[inline(always)]
 fn max_64<R: Registers>(elements: &mut [[u8; 4]], first: usize, src: &R)
     requires size { length elements.old ≡ 16 }
@@ -206,11 +296,8 @@ fn max_64<R: Registers>(elements: &mut [[u8; 4]], first: usize, src: &R)
     ensures { values elements.new ≡ join (values elements.old) (take (4 * length elements.old) (drop first (R.stored src.now).registers)) }
 {
     let mut registers = read_64(elements);
-    if src.max_block_into(first as u32, &mut registers) {
-        write_64(elements, &registers);
-    } else {
-        max_part::<64, R>(elements, first, src);
-    }
+    src.max_into(first as u32, &mut registers);
+    write_64(elements, &registers);
 }
 
 /// Returns the 64 registers of sixteen elements.
@@ -316,26 +403,44 @@ fn fold_blocks(front: &mut [[u8; 4]], after: &[[u8; 4]], from: u8, to: u8)
     }
 }
 
-/// Takes the maximum of registers and of the registers of the same number of other elements, part by part.
+/// Takes the maximum of registers and of the registers of the same number of other elements, 64 at a time.
 fn max_elements(elements: &mut [[u8; 4]], others: &[[u8; 4]])
     requires { length elements.old ≡ length others.now }
     ensures { values elements.new ≡ join (values elements.old) (values others.now) }
 {
     let mut at = 0;
     while at < elements.len() {
-        let end = (at + PART).min(elements.len());
+        let end = (at + 16).min(elements.len());
         max_few(&mut elements[at..end], &others[at..end]);
         at = end;
     }
 }
 
-/// Takes the maximum of at most 2^14 registers and of the registers of the same number of other elements, in a copy.
+/// Takes the maximum of 64 registers and of the registers of sixteen other elements. The compiler keeps them in lanes.
+#[inline(always)]
+fn max_16(elements: &mut [[u8; 4]], others: &[[u8; 4]])
+    requires size { length elements.old ≡ 16 }
+    requires others { length others.now ≡ 16 }
+    ensures { values elements.new ≡ join (values elements.old) (values others.now) }
+{
+    let mut registers = read_64(elements);
+    max_into(&mut registers, &read_64(others));
+    write_64(elements, &registers);
+}
+
+/// Takes the maximum of at most 64 registers and of the registers of the same number of other elements: in lanes if there are 64,
+/// otherwise in a copy.
+#[inline(always)]
 fn max_few(elements: &mut [[u8; 4]], others: &[[u8; 4]])
-    requires few { length elements.old ≤ 4096 }
+    requires few { length elements.old ≤ 16 }
     requires size { length elements.old ≡ length others.now }
     ensures { values elements.new ≡ join (values elements.old) (values others.now) }
 {
-    let mut registers = [0; 16384];
+    if elements.len() == 16 {
+        max_16(elements, others);
+        return;
+    }
+    let mut registers = [0; 64];
     let copy = &mut registers[..4 * elements.len()];
     copy.copy_from_slice(elements.as_flattened());
     max_into(copy, others.as_flattened());
