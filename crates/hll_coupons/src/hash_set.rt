@@ -34,6 +34,7 @@ use std::marker::Model;
 
 /// A container in which each coupon is in the bucket where a search finds it. Contracts see the container's size and
 /// buckets.
+// More methods are in the module additions.
 #[derive_where(Debug)]
 #[derive(Drop)]
 pub struct HashSet<A: Allocator = Global> {

@@ -36,6 +36,7 @@ use std::marker::Model;
 
 /// A sketch: an `lg_k`, and a mode. Contracts see the `lg_k` and the layout of the mode, including the buckets of tables; the
 /// sketch value is a function of them.
+// More methods are in the modules additions, conversion, image_check, merge and read_image.
 #[derive(Drop)]
 pub struct HllSketch<A: Allocator = Global> {
     pub(crate) lg_config_k: u8,

@@ -24,6 +24,7 @@ const COUPONS: u32 = 0x4c48_4c41;
 const REGISTERS: u32 = 0x4c48_4c42;
 
 /// What a state says before its coupons or registers.
+// More methods are in the modules as_image, counter, join, memory, merge_coupons, merge_image, merge_registers and merge_table.
 #[derive(Clone, Copy, Debug, PartialEq, Eq)]
 pub struct Header {
     /// The logarithm of the number of registers, 4 to 21.
@@ -46,6 +47,7 @@ pub enum Held {
 }
 
 /// What a header says of coupons.
+// More methods are in the modules as_image and counter.
 #[derive(Clone, Copy, Debug, PartialEq, Eq)]
 pub struct CouponTable {
     /// The logarithm of the number of buckets of the table that the coupons began in: 3, or 5 to `lg_k` - 3.
