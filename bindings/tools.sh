@@ -3,6 +3,11 @@
 # For the scripts `check` of the bindings: are tools here, and can they be had? Source it. Packages are installed only where
 # HLL_INSTALL=yes or CI=true is in the environment (`./check --install` at the top sets it).
 
+# Whoever runs the tests: messages are English, and the tools of a system are found, as they are by root.
+LC_ALL=C.UTF-8
+PATH=$PATH:/usr/sbin:/sbin
+export LC_ALL PATH
+
 has() {
     command -v "$1" >/dev/null 2>&1
 }

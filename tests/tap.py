@@ -1,9 +1,14 @@
 # SPDX-License-Identifier: Apache-2.0
 """Results of tests as TAP (testanything.org), for scripts in Python: `bindings/tap.sh` is the same for a shell."""
+import os
 import sys
 import time
 import traceback
 import unittest
+
+# Whoever runs the tests: messages are English, and the tools of a system are found, as they are by root.
+os.environ["LC_ALL"] = "C.UTF-8"
+os.environ["PATH"] = os.environ.get("PATH", "/usr/bin:/bin") + ":/usr/sbin:/sbin"
 
 
 class Tap:

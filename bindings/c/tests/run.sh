@@ -22,6 +22,13 @@ top=$(cd ../.. && pwd)
 text=$top/prebuilt/$($CC -dumpmachine | cut -d- -f1)/libhll_c.s
 arm=aarch64-unknown-linux-gnu
 version=$(sed -n 's/^#define HLL_VERSION_[A-Z]* \([0-9]*\)$/\1/p' hll.h | paste -sd. -)
+# HLL_WALKS=tenth in the environment makes a tenth of the random walks.
+sequences=2000
+walks=1000
+if [ "${HLL_WALKS:-}" = tenth ]; then
+    sequences=200
+    walks=100
+fi
 mkdir -p "$tests" || exit 1
 
 # The walks are made by a script, which needs Python; a source package has them.
@@ -102,8 +109,8 @@ test_calls() {
     run threads "$tests/threads"
     run estimates "$tests/estimates"
     run rows "$tests/rows" $rows
-    run registers "$tests/registers"
-    run states "$tests/states"
+    run registers "$tests/registers" $sequences
+    run states "$tests/states" $walks
 }
 
 test_memory() {
@@ -181,12 +188,15 @@ try_readme() {
         grep 'gone.hll: No such file' "$tests/refused" && [ "$(wc -l <"$tests/refused")" -eq 2 ]
 }
 
-# Builds the libraries in a new folder, from a build of the proved library.
+# make_in FOLDER PROVED WORD ..: builds the libraries in a new folder, from a build of the proved library, or what the words say.
 make_in() {
-    rm -rf "$1"
-    mkdir "$1" || return 1
-    cp Makefile ./*.[ch] hll.map hll.pc.in pc.sh "$1" || return 1
-    make -s -C "$1" PROVED="$2" all
+    folder=$1
+    proved=$2
+    shift 2
+    rm -rf "$folder"
+    mkdir "$folder" || return 1
+    cp Makefile ./*.[ch] hll.map hll.pc.in pc.sh "$folder" || return 1
+    env -u MAKEFLAGS -u CC -u CXX make -s -C "$folder" PROVED="$proved" "${@:-all}"
 }
 
 # Builds the libraries in two folders, from the same text: they are the same bytes.
@@ -296,6 +306,36 @@ test_processors() {
     unset LD_LIBRARY_PATH
 }
 
+# A static program with the C library of musl. The library is built by the same compiler, and so are the programs.
+by_musl() {
+    name=$1
+    shift
+    musl-gcc $test_flags -static -o "$tests/$name-musl" "tests/$name.c" "$tests/musl/build/libhll.a" "$@"
+}
+
+programs_by_musl() {
+    place=$(pwd)/$tests/musl
+    env -u MAKEFLAGS -u CC -u CXX make -s -C ../../programs B="$place/objects" BIN="$place/bin" CC=musl-gcc HARDENED= LDFLAGS=-static || return 1
+    [ "$(printf 'new 10 8\ncoupon 5 3\n' | "$place/bin/hll_merge")" = 0201070a030801080500000c ] &&
+        [ "$(echo 0201070a030801080500000c | "$place/bin/hll_estimator_fields")" = 0201070a030801080500000c ]
+}
+
+test_musl() {
+    has musl-gcc || { skip 'musl' 'musl-gcc is not here'; return; }
+    expect 'the library, with musl' make_in "$tests/musl" "$text" CC=musl-gcc build/libhll.a
+    for name in calls buffers estimates rows registers states threads; do
+        expect "test of $name compiles, with musl" by_musl $name
+    done
+    expect 'test of refusals compiles, with musl' by_musl refusals "$wraps"
+    for name in calls buffers estimates threads refusals; do
+        run "$name, with musl" "$tests/$name-musl"
+    done
+    run 'rows, with musl' "$tests/rows-musl" $rows
+    run 'registers, with musl' "$tests/registers-musl" 200
+    run 'states, with musl' "$tests/states-musl" 100
+    expect 'both programs, with musl' programs_by_musl
+}
+
 # A test on 64-bit ARM, by an emulator.
 emulate() {
     env -u MAKEFLAGS -u CC -u CXX make -s "emulated-$1" TARGET=$arm
@@ -349,6 +389,7 @@ else
     expect 'paths with spaces and quotes' try_odd_paths
     expect 'without rt' try_without_rt
     test_processors
+    test_musl
     expect 'the same bytes from two folders' try_two_folders
     test_arm
 fi
