@@ -131,7 +131,7 @@ pub(crate) fn add_value(state: &mut [[u8; 4]], value: &[u8], size: &mut usize) -
         Begun::NoState => Reason::Argument.number(),
         Begun::NoRoom(len) => too_small(len, size),
         Begun::Room(mut header) => {
-            header.push(&mut state[HEADER_LEN..], raw);
+            header.push_higher(&mut state[HEADER_LEN..], raw);
             close(state, header);
             OK
         }

@@ -48,7 +48,7 @@ impl Header {
         }
     }
 
-    /// Adds a raw coupon, as to a sketch. There is room for it.
+    /// Adds a raw coupon, as to a sketch. There is room for it. If its register is high enough, nothing is written.
     #[inline(always)]
     pub fn push(&mut self, body: &mut [[u8; 4]], raw: u32)
         requires within { IsWithin self.old (length body.old) }
@@ -58,9 +58,21 @@ impl Header {
         ensures widths { self.new.widths ≡ self.old.widths }
         ensures room { (n : ℕ) → HasRoom self.old (n + 1) (length body.old) → HasRoom self.new n (length body.old) }
     {
-        if self.has_raised(body, raw) {
-            return;
+        if !self.has_raised(body, raw) {
+            self.push_higher(body, raw);
         }
+    }
+
+    /// Adds a raw coupon, as `push` does, without looking first whether its register is high enough: for a caller that did.
+    #[inline(always)]
+    pub fn push_higher(&mut self, body: &mut [[u8; 4]], raw: u32)
+        requires within { IsWithin self.old (length body.old) }
+        requires room { HasRoom self.old 1 (length body.old) }
+        ensures within { IsWithin self.new (length body.old) }
+        ensures added { sketch_in self.new body.new ≡ add (sketch_in self.old body.old) (set_of (raw ∷ [])) }
+        ensures widths { self.new.widths ≡ self.old.widths }
+        ensures room { (n : ℕ) → HasRoom self.old (n + 1) (length body.old) → HasRoom self.new n (length body.old) }
+    {
         self.leave_element(body);
         self.held = match self.held {
             Held::Coupons(coupons) => Held::Coupons(coupons.with(body, self.lg_k, raw)),

@@ -73,7 +73,7 @@ pub fn raise(elements: &mut [[u8; 4]], lg_k: u8, raw: u32) -> bool
 
 /// Returns whether the register of the coupon's slot modulo 2^`lg_k` is at least the coupon's value: then `raise` changes nothing.
 #[inline(always)]
-pub fn is_raised(elements: &[[u8; 4]], lg_k: u8, raw: u32) -> bool
+pub(crate) fn is_raised(elements: &[[u8; 4]], lg_k: u8, raw: u32) -> bool
     requires least { 4 ≤ lg_k }
     requires most { lg_k ≤ 21 }
     requires size { 2 ^ (lg_k - 2) ≤ length elements.now }

@@ -13,19 +13,19 @@ use Rattle.hll_c.proofs.state.add_value.Goals as goal
 pub too_small-requires : goal.too_small-requires
 too_small-requires c = enough_fits c.begin.new.elements 1 c.in-NoRoom.len c.in-NoRoom.ensures.enough
 
-pub push-requires-clause-within : goal.push-requires-clause-within
-push-requires-clause-within c = ready_within 1 c.args.state.now c.begin.new.elements c.in-Room.header c.in-Room.ensures c.begin.auto.elements
+pub push_higher-requires-clause-within : goal.push_higher-requires-clause-within
+push_higher-requires-clause-within c = ready_within 1 c.args.state.now c.begin.new.elements c.in-Room.header c.in-Room.ensures c.begin.auto.elements
 
-pub push-requires-clause-room : goal.push-requires-clause-room
-push-requires-clause-room c = ready_room 1 c.args.state.now c.begin.new.elements c.in-Room.header c.in-Room.ensures c.begin.auto.elements
+pub push_higher-requires-clause-room : goal.push_higher-requires-clause-room
+push_higher-requires-clause-room c = ready_room 1 c.args.state.now c.begin.new.elements c.in-Room.header c.in-Room.ensures c.begin.auto.elements
 
 pub close-requires-clause-there : goal.close-requires-clause-there
 close-requires-clause-there c =
-    omega (arith, written_size 1 c.args.state.now c.begin.new.elements c.in-Room.header c.in-Room.ensures c.begin.auto.elements c.push.new.body c.push.auto.body, c.in-Room.ensures.there)
+    omega (arith, written_size 1 c.args.state.now c.begin.new.elements c.in-Room.header c.in-Room.ensures c.begin.auto.elements c.push_higher.new.body c.push_higher.auto.body, c.in-Room.ensures.there)
 
 pub close-requires-clause-within : goal.close-requires-clause-within
 close-requires-clause-within c =
-    subst (IsWithin c.push.new.self) (written_within 1 c.args.state.now c.begin.new.elements c.in-Room.header c.in-Room.ensures c.begin.auto.elements c.push.new.body c.push.auto.body) c.push.ensures.within
+    subst (IsWithin c.push_higher.new.self) (written_within 1 c.args.state.now c.begin.new.elements c.in-Room.header c.in-Room.ensures c.begin.auto.elements c.push_higher.new.body c.push_higher.auto.body) c.push_higher.ensures.within
 
 pub returns-in-NoState : goal.returns-in-NoState
 returns-in-NoState c =
@@ -42,7 +42,7 @@ returns-in-Room c =
     let raw : c.raw-raw.result ≡ coupon_of_bytes c.args.value.now = c.raw-raw.ensures ∙ c.from_bytes.ensures.bytes in
     added tt
     (closed 1 c.args.state.now c.begin.new.elements c.in-Room.header c.in-Room.ensures c.begin.auto.elements (λ x. add_in_turn x (coupon_of_bytes c.args.value.now ∷ []))
-    c.push.new.self c.push.new.body c.close.new.elements (c.push.ensures.added ∙ ap (λ n. add_in_turn (sketch_in c.in-Room.header (mid_of 10 (length c.begin.new.elements - 10) c.begin.new.elements)) (n ∷ [])) raw) c.close.ensures.header c.close.ensures.rest)
+    c.push_higher.new.self c.push_higher.new.body c.close.new.elements (c.push_higher.ensures.added ∙ ap (λ n. add_in_turn (sketch_in c.in-Room.header (mid_of 10 (length c.begin.new.elements - 10) c.begin.new.elements)) (n ∷ [])) raw) c.close.ensures.header c.close.ensures.rest)
     refl
 
 pub returns-then-has_raised : goal.returns-then-has_raised
