@@ -452,7 +452,7 @@ hll_status hll_state_join_state(unsigned lg_max_k, void *state, size_t room, siz
 /* Writes the image of a state at this width. The bytes of the state may change, because coupons are sorted, but not its
  * sketch.
  * Returns HLL_OK, HLL_REGISTER, HLL_ARGUMENT, HLL_MEMORY or HLL_BUFFER (*size is the size of the image). Allocates the image,
- * and a copy of registers. */
+ * and at 4 and 6 bits a copy of registers. */
 hll_status hll_state_image(void *state, size_t room, unsigned width, uint8_t *out, size_t out_room, size_t *size);
 
 /* Estimates from a state, as hll_estimate does. The bytes of the state may change, but not its sketch.

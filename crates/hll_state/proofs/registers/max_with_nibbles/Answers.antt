@@ -27,12 +27,13 @@ loop-at-preserved c =
     let part : nibble_values m (take (2 * at + 32 - 2 * at) (drop (2 * at) B)) ≡ take (4 * (at + 16 - at)) (drop (4 * at) Q) =
     ap (λ n. nibble_values m (take n (drop (2 * at) B))) count
     ∙ values-block m (2 * at) 32 B (omega (arith, room, c.requires.size))
-    ∙ (λ i. take 64 (drop (from i) Q)) ∙ ap (λ n. take (4 * n) (drop (4 * at) Q)) (sym four) in
-    (joined_more at (at + 16) first now c.max_with_32_bytes.new.elements Q c.told-elements c.loop-at.auto.elements size c.loop-at.invariant.0
-     (omega arith) (omega (arith, room, c.loop-at.auto.elements)) c.max_with_32_bytes.auto.elements
-     (c.max_with_32_bytes.ensures ∙ ap (join (values (take (at + 16 - at) (drop at now)))) part),
-     room,
-     omega (arith, c.loop-at.invariant.2))
+    ∙ (λ i. take 64 (drop (from i) Q)) ∙ ap (λ n. take (4 * n) (drop (4 * at) Q)) (sym four) in (
+      joined_more at (at + 16) first now c.max_with_32_bytes.new.elements Q c.told-elements c.loop-at.auto.elements size c.loop-at.invariant.0
+          (omega arith) (omega (arith, room, c.loop-at.auto.elements)) c.max_with_32_bytes.auto.elements
+          (c.max_with_32_bytes.ensures ∙ ap (join (values (take (at + 16 - at) (drop at now)))) part),
+      room,
+      omega (arith, c.loop-at.invariant.2),
+    )
 
 pub returns : goal.returns
 returns c =
