@@ -36,7 +36,7 @@ def run(*words, cwd):
 
 def built(place):
     """Builds the library in a scratch folder, and returns the folder of what was built."""
-    for file in [*C.glob("*.[ch]"), C / "Makefile", C / "hll.map", C / "hll.pc.in"]:
+    for file in [*C.glob("*.[ch]"), *C.glob("*.sh"), C / "Makefile", C / "hll.map", C / "hll.pc.in"]:
         shutil.copy(file, place)
     run("make", "-s", "all", "PROVED=%s" % (prebuilt.PREBUILT / TEXT), cwd=place)
     return place / "build"
