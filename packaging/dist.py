@@ -33,9 +33,9 @@ import trust  # noqa: E402
 NAME = "hll-sketches"
 SYSTEM_PATH = "/usr/sbin:/usr/bin:/sbin:/bin"
 PYTHON = "/usr/bin/python3"
-NEEDED = {"git": "git", "make": "make", "cc": "gcc", "readelf": "binutils", "dpkg-buildpackage": "dpkg-dev", "dh": "debhelper",
-          "aarch64-linux-gnu-gcc": "gcc-aarch64-linux-gnu"}
-MODULES = {"pip": "python3-pip", "setuptools": "python3-setuptools", "wheel": "python3-wheel"}
+# what a release needs besides the build dependencies of debian/control.in
+NEEDED = {"binutils", "build-essential", "dpkg-dev", "gcc", "gcc-aarch64-linux-gnu", "git", "libc6-dev-arm64-cross", "make", "python3-pip",
+          "python3-wheel"}
 
 
 class Failed(Exception):
@@ -68,21 +68,35 @@ def run(words, cwd, **more):
     return ran.stdout
 
 
-def missing_tools():
-    """The packages of the distribution that are missing."""
-    missing = [package for tool, package in NEEDED.items() if not shutil.which(tool, path=SYSTEM_PATH)]
-    missing += [package for module, package in MODULES.items()
-                if not os.path.exists(PYTHON) or subprocess.run([PYTHON, "-c", "import " + module], stderr=subprocess.DEVNULL).returncode]
-    if "dpkg-dev" not in missing:
-        told = subprocess.run(["dpkg-checkbuilddeps"], cwd=ROOT, stderr=subprocess.PIPE, text=True).stderr
-        missing += "".join(re.findall("Unmet build dependencies: (.*)", told)).split()
-    return missing
+def control_template():
+    return (ROOT / "debian" / "control.in").read_text()
 
 
-def test_commit():
-    """Says so where the files are not those of a commit."""
+def needed_packages():
+    """The packages of Debian that a release needs."""
+    field = re.search(r"^Build-Depends:(.*\n(?: .*\n)*)", control_template(), re.M)[1]
+    names = re.findall(r"(?:^|,)\s*([a-z0-9.+-]+)", field)
+    return NEEDED | {"debhelper" if name == "debhelper-compat" else name for name in names}     # compat: provided by debhelper
+
+
+def missing_packages():
+    """The packages that are needed and not installed."""
+    listed = ""
+    if shutil.which("dpkg-query", path=SYSTEM_PATH):
+        query = ["dpkg-query", "-W", "-f", "${Package} ${db:Status-Status}\n", *needed_packages()]
+        listed = subprocess.run(query, stdout=subprocess.PIPE, stderr=subprocess.DEVNULL, text=True).stdout
+    return sorted(name for name in needed_packages() if name + " installed" not in listed.splitlines())
+
+
+def test_tree():
+    """`Failed` if a release can't be made here. Prints a line if the files are not those of a commit."""
     if not (ROOT / ".git").exists():
         raise Failed("a release is made in a checkout of git")
+    missing = missing_packages()
+    if missing:
+        raise Failed("packages are missing: apt-get install %s" % " ".join(missing))
+    if prebuilt.asked("state") != "fresh":
+        raise Failed("prebuilt/ is %s: run ./check proofs, and commit what it writes" % prebuilt.asked("state"))
     if output("git", "status", "--porcelain", "--untracked-files=no"):
         print("dist: files differ from the commit, so what is made here is not to be published")
 
@@ -97,17 +111,25 @@ def meta():
 
 def changelog():
     """debian/changelog: one entry, of the time of the commit."""
-    maintainer = re.search(r"^Maintainer: (.*)$", (ROOT / "debian" / "control").read_text(), re.M)[1]
+    maintainer = re.search(r"^Maintainer: (.*)$", control_template(), re.M)[1]
     date = email.utils.format_datetime(datetime.datetime.fromtimestamp(epoch(), datetime.timezone.utc))
     return "%s (%s-1) unstable; urgency=medium\n\n  * Version %s: the file changelog tells what has changed.\n\n -- %s  %s\n" % (
         NAME, version(), version(), maintainer, date)
 
 
+def control():
+    """debian/control: the template, with the versions of PostgreSQL that this release of Debian has."""
+    with tempfile.TemporaryDirectory() as room:
+        shutil.copytree(ROOT / "debian", pathlib.Path(room, "debian"))
+        run(["pg_buildext", "updatecontrol"], room)
+        return pathlib.Path(room, "debian", "control").read_text()
+
+
 def put_sources(dist):
-    """The source package: all files of the checkout, META.json and debian/changelog."""
+    """The source package: all files of the checkout, META.json, debian/changelog and debian/control."""
     files = {name: (ROOT / name).read_bytes() for name in output("git", "ls-files", "-z").split("\0") if name and (ROOT / name).is_file()}
     files.update((str(path.relative_to(ROOT)), path.read_bytes()) for path in rows.texts())     # the walks, which a script makes
-    files.update({"META.json": meta().encode(), "debian/changelog": changelog().encode()})
+    files.update({"META.json": meta().encode(), "debian/changelog": changelog().encode(), "debian/control": control().encode()})
     with open(dist / ("%s-%s.tar.gz" % (NAME, version())), "wb") as raw, gzip.GzipFile("", "wb", 9, raw, epoch()) as packed, \
             tarfile.open(fileobj=packed, mode="w", format=tarfile.GNU_FORMAT) as tar:
         for name in sorted(files):
@@ -122,7 +144,7 @@ def unpacked(dist, room):
     """The source package, unpacked in a folder."""
     room.mkdir()
     with tarfile.open(dist / ("%s-%s.tar.gz" % (NAME, version()))) as tar:
-        tar.extractall(room)
+        tar.extractall(room, **({"filter": "data"} if hasattr(tarfile, "data_filter") else {}))     # no argument of older Pythons
     return room / ("%s-%s" % (NAME, version()))
 
 
@@ -156,12 +178,7 @@ def put_sums(dist):
 
 def make():
     """All of dist/, which takes the place of an earlier one once it is whole."""
-    test_commit()
-    missing = missing_tools()
-    if missing:
-        raise Failed("tools are missing: apt-get install %s" % " ".join(missing))
-    if prebuilt.asked("state") != "fresh":
-        raise Failed("prebuilt/ is %s: run ./check proofs, and commit what it writes" % prebuilt.asked("state"))
+    test_tree()
     os.umask(0o022)
     with tempfile.TemporaryDirectory() as room:
         room = pathlib.Path(room)

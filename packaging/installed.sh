@@ -57,19 +57,27 @@ echo 'ok: the example in C++'
 echo 'ok: SQLite'
 
 [ -z "$ROOT" ] || exit 0
-data=$(mktemp -d)
-chown postgres "$data"
-as_postgres() {
-    su postgres -s /bin/sh -c "cd $data && PATH=/usr/lib/postgresql/15/bin:\$PATH && $1"
-}
-as_postgres 'initdb -D data >log 2>&1'
-as_postgres "pg_ctl -D data -w -l log -o \"-k $data -c listen_addresses='' -c dynamic_shared_memory_type=mmap\" start >>log" || { cat "$data/log"; exit 1; }
-as_postgres "psql -h $data -qAt" <<'END' >said
+# try_postgresql BIN: the extension on a server of the version that has its programs in BIN
+try_postgresql() {
+    data=$(mktemp -d)
+    chown postgres "$data"
+    as_postgres "$1" 'initdb -D data >log 2>&1'
+    as_postgres "$1" "pg_ctl -D data -w -l log -o \"-k $data -c listen_addresses='' -c dynamic_shared_memory_type=mmap\" start >>log" || { cat "$data/log"; exit 1; }
+    as_postgres "$1" "psql -h $data -qAt" <<'END' >said
 CREATE EXTENSION hll_sketches;
 SELECT hll_estimate(hll_image_union_agg(image)) BETWEEN 950 AND 1050
 FROM (SELECT hll_image_add_agg(x) image FROM generate_series(1, 1000) x GROUP BY x % 7) days;
 CREATE EXTENSION hll_sketches_agg;
 END
-as_postgres 'pg_ctl -D data -w -m immediate stop >>log'
-[ "$(cat said)" = t ]
+    as_postgres "$1" 'pg_ctl -D data -w -m immediate stop >>log'
+    [ "$(cat said)" = t ]
+}
+
+as_postgres() {
+    su postgres -s /bin/sh -c "cd $data && PATH=$1:\$PATH && $2"
+}
+
+for module in /usr/lib/postgresql/*/lib/hll_sketches.so; do
+    try_postgresql "${module%/lib/hll_sketches.so}/bin"
+done
 echo 'ok: PostgreSQL'
