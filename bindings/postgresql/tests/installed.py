@@ -1,12 +1,13 @@
 # SPDX-License-Identifier: Apache-2.0
 """The extension as it is built and installed: its names, its marks, beside others, in dumps, and in its README."""
+import itertools
 import os
 import re
 import shutil
 import subprocess
 
 from report import CHECKED, DATA, UNDEFINED, check, equal, refused, skip
-from server import EARLIER, HERE
+from server import EARLIER, HERE, SAME, VERSION
 
 
 def build(server):
@@ -108,41 +109,153 @@ def marks(server):
 
 # ---- updates and dumps
 
-# What a database of an earlier version may have: columns, views, indexes, constraints and defaults, a function and aggregates.
-OLD = """CREATE EXTENSION hll_sketches VERSION '%(version)s';
+# What a database of an earlier version may have: columns with modifiers, a domain and a generated column, views, indexes,
+# constraints and defaults, a function and aggregates. Only what each version since 0.1.9 has.
+FILL = """CREATE EXTENSION hll_sketches VERSION '%(version)s';
     CREATE EXTENSION hll_sketches_agg VERSION '%(version)s';
-    CREATE TABLE days (day int PRIMARY KEY, sketch hyperloglog(12) NOT NULL, plain bytea DEFAULT hll_image_empty(12),
-        CHECK ((hll_info(sketch)).lg_k <= 12));
-    INSERT INTO days SELECT g, hyperloglog_agg(x, 12, 4 + 2 * (g %% 3)), hll_image_add_agg('v' || x)
+    CREATE DOMAIN small_sketch AS hyperloglog(10) CHECK (hll_estimate(VALUE) < 1e9);
+    CREATE TABLE days (day int PRIMARY KEY, sketch hyperloglog(12) NOT NULL, plain bytea DEFAULT hll_image_empty(12), small small_sketch,
+        estimate float8 GENERATED ALWAYS AS (# sketch) STORED, CHECK ((hll_info(sketch)).lg_k <= 12));
+    INSERT INTO days SELECT g, hyperloglog_agg(x, 12, 4 + 2 * (g %% 3)), hll_image_add_agg('v' || x), hyperloglog_agg(x, 10)
         FROM (SELECT x, x %% 40 g FROM generate_series(1, 60000) x) s GROUP BY g;
+    CREATE TABLE keys (sketch hyperloglog(4, 8) PRIMARY KEY, several hyperloglog[]);
+    INSERT INTO keys SELECT hyperloglog_agg(x, 4, 8), array_agg(hyperloglog_empty(9)) FROM generate_series(1, 900) x GROUP BY x %% 40;
     CREATE MATERIALIZED VIEW month AS SELECT hyperloglog_union_agg(sketch) u, hll_image_union_agg(plain, 11) p FROM days;
     CREATE VIEW estimates AS SELECT day, # sketch e, hll_fold('\\x0201070a030801080500000c', 4) f FROM days;
-    CREATE INDEX ON days ((hll_estimate(sketch)));
-    CREATE INDEX ON days USING hash (sketch);
-    CREATE FUNCTION total() RETURNS float8 LANGUAGE sql AS 'SELECT # hyperloglog_agg(day) FROM days'""" % {"version": EARLIER}
-TELLS = """SELECT md5(string_agg(sketch::text || plain::text, ',' ORDER BY day)), (SELECT u FROM month), (SELECT p FROM month), total(),
-    (SELECT string_agg(estimates::text, ',' ORDER BY day) FROM estimates), hll_image_add_agg(day), hll_image_add_agg(day::text, 10)
-    FROM days"""
+    CREATE INDEX by_estimate ON days ((hll_estimate(sketch)));
+    CREATE INDEX by_sketch ON days USING hash (sketch);
+    CREATE INDEX of_images ON days (estimate) WHERE hll_is_image(plain);
+    CREATE FUNCTION total() RETURNS float8 LANGUAGE sql AS 'SELECT # hyperloglog_agg(day) FROM days'"""
+# What uses the short names, which EARLIER doesn't have.
+SHORT = """CREATE VIEW short_month AS SELECT hll_union_agg(sketch) u, hll_union_agg(plain, 11) p, hll_add_agg(day) d FROM days;
+    CREATE MATERIALIZED VIEW short_thirds AS SELECT day % 3 g, hll_union_agg(small) u FROM days GROUP BY 1;
+    CREATE INDEX ON short_thirds USING hash (u)"""
+RELATIONS = "SELECT relname FROM pg_class WHERE relnamespace = 'public'::regnamespace AND relkind IN ('r', 'v', 'm') ORDER BY 1"
+ROWS = "SELECT '%s', count(*), md5(string_agg(x::text, ',' ORDER BY x::text)) FROM %s x"
+CALLS = "SELECT total(), hll_image_add_agg(day), hll_image_add_agg(day::text, 10) FROM days"
+
+# An index, and a query that uses it.
+LOOKUPS = (("by_estimate", "SELECT string_agg(day::text, ',' ORDER BY day) FROM days WHERE hll_estimate(sketch) > 1500"),
+           ("by_sketch", "SELECT day FROM days WHERE sketch = (SELECT sketch FROM days WHERE day = 7)"),
+           ("of_images", "SELECT string_agg(day::text, ',' ORDER BY day) FROM days WHERE hll_is_image(plain) AND estimate < 1500"),
+           ("keys_pkey", "SELECT count(*) FROM keys WHERE sketch >= (SELECT sketch FROM keys ORDER BY sketch DESC LIMIT 1)"))
+
+# Columns, indexes, views, constraints and domains of the schema public, in which PostgreSQL writes names of the extension.
+DEFINITIONS = """SELECT concat_ws(' ', relname, attname, format_type(atttypid, atttypmod), attgenerated, attnotnull, pg_get_expr(adbin, adrelid)) x
+        FROM pg_class c JOIN pg_attribute ON attrelid = c.oid LEFT JOIN pg_attrdef ON (adrelid, adnum) = (attrelid, attnum)
+        WHERE relnamespace = 'public'::regnamespace AND relkind IN ('r', 'v', 'm', 'i') AND attnum > 0
+    UNION ALL SELECT concat_ws(' ', indexrelid::regclass, indisvalid, pg_get_indexdef(indexrelid)) FROM pg_index JOIN pg_class c ON c.oid = indexrelid
+        WHERE relnamespace = 'public'::regnamespace
+    UNION ALL SELECT concat_ws(' ', relname, relispopulated, pg_get_viewdef(oid)) FROM pg_class
+        WHERE relnamespace = 'public'::regnamespace AND relkind IN ('v', 'm')
+    UNION ALL SELECT concat_ws(' ', conname, pg_get_constraintdef(oid)) FROM pg_constraint WHERE connamespace = 'public'::regnamespace
+    UNION ALL SELECT concat_ws(' ', typname, format_type(typbasetype, typtypmod)) FROM pg_type
+        WHERE typnamespace = 'public'::regnamespace AND typtype = 'd'
+    ORDER BY x"""
+FILES = """SELECT relname, oid, pg_relation_filenode(oid) FROM pg_class
+    WHERE relnamespace = 'public'::regnamespace AND relkind IN ('r', 'm', 'i') ORDER BY 1"""
+
+# What both extensions own, with all that their scripts say of it.
+MEMBERS = """SELECT concat_ws('|', pg_describe_object(classid, objid, 0), obj_description(objid, relname),
+        pg_get_function_arguments(p.oid), pg_get_function_result(p.oid), prosrc, probin, procost, provolatile, proparallel, proisstrict, proleakproof,
+        aggtransfn, aggfinalfn, aggcombinefn, aggserialfn, aggdeserialfn, aggtranstype::regtype, aggtransspace, aggfinalmodify,
+        oprcode, oprcom::regoperator, oprnegate::regoperator, oprrest, oprjoin, oprcanmerge, oprcanhash, castfunc::regprocedure, castcontext, castmethod,
+        typinput, typoutput, typreceive, typsend, typmodin, typmodout, typstorage, typcategory, typispreferred, typlen, typalign, opcdefault) x
+    FROM pg_depend JOIN pg_extension e ON refclassid = 'pg_extension'::regclass AND refobjid = e.oid AND deptype = 'e' AND extname ~ '^hll_sketches'
+        JOIN pg_class c ON c.oid = classid
+        LEFT JOIN pg_proc p ON (classid, objid) = ('pg_proc'::regclass, p.oid)
+        LEFT JOIN pg_aggregate ON p.oid = aggfnoid
+        LEFT JOIN pg_operator o ON (classid, objid) = ('pg_operator'::regclass, o.oid)
+        LEFT JOIN pg_cast k ON (classid, objid) = ('pg_cast'::regclass, k.oid)
+        LEFT JOIN pg_type t ON (classid, objid) = ('pg_type'::regclass, t.oid)
+        LEFT JOIN pg_opclass f ON (classid, objid) = ('pg_opclass'::regclass, f.oid)
+    ORDER BY x"""
+UPDATE = "ALTER EXTENSION hll_sketches UPDATE; ALTER EXTENSION hll_sketches_agg UPDATE;"
+
+
+def looked_up(server, database):
+    """What the queries of LOOKUPS find by their indexes."""
+    for index, query in LOOKUPS:
+        plan = server.ask("SET enable_seqscan = off; EXPLAIN (COSTS OFF) " + query, database)
+        check("the plan uses %s in %s" % (index, database), re.search(r"\b%s\b" % index, plan), plan)
+        found = server.ask("SET enable_seqscan = off; " + query, database)
+        check("%s finds rows in %s" % (index, database), found not in ("", "0"), found)
+        yield found
+
+
+def contents(server, database):
+    """What a database that FILL made has: the rows of tables and views, what indexes and calls give, and definitions."""
+    relations = server.ask(RELATIONS, database).split("\n")
+    check("tables and views of " + database, len(relations) >= 4, relations)
+    rows = [server.ask(ROWS % (relation, relation), database) for relation in relations]
+    return [*rows, server.ask(CALLS, database), *looked_up(server, database), *server.ask(DEFINITIONS, database).split("\n")]
+
+
+def same(name, found, wanted):
+    """That two lists are equal; else what differs."""
+    check(name, found == wanted, [pair for pair in itertools.zip_longest(found, wanted) if pair[0] != pair[1]])
 
 
 def update(server):
-    """A database of an earlier version says the same after an update, and has what a new one has; so has a dump of it, restored."""
-    server.ask("CREATE DATABASE old; CREATE DATABASE restored")
-    server.ask(OLD, "old")
-    before, dumped = server.ask(TELLS, "old"), server.tool("pg_dump", "-d", "old")
+    """A database of each earlier version says the same after an update, and has what a new one has; so have dumps of it that are
+    restored."""
+    versions = server.ask("SELECT version FROM pg_available_extension_versions WHERE name = 'hll_sketches' AND version <> '%s'" % VERSION)
+    check("earlier versions", {EARLIER, SAME} <= {*versions.split("\n")}, versions)
+    server.ask("CREATE DATABASE fresh")
+    server.ask("CREATE EXTENSION hll_sketches; CREATE EXTENSION hll_sketches_agg", "fresh")
+    members = server.ask(MEMBERS, "fresh").split("\n")
+    check("what a new database has", len(members) > 200, len(members))
+    for version in versions.split("\n"):
+        update_from(server, version, members)
+    update_of_earlier(server)
+
+
+def update_from(server, version, members):
+    """A database of one earlier version, updated; and dumps from before and after the update, restored."""
+    name = "of %s" % version
+    server.ask('CREATE DATABASE "%s"' % name)
+    server.ask(FILL % {"version": version}, name)
+    server.ask(SHORT if version != EARLIER else "", name)
+    before, files, dumped = contents(server, name), server.ask(FILES, name), server.tool("pg_dump", "-d", name)
+    equal("updated from " + version, server.run(UPDATE, name), "")
+    equal("versions", server.ask("SELECT extname, extversion FROM pg_extension WHERE extname ~ '^hll' ORDER BY 1", name),
+          "hll_sketches|%s\nhll_sketches_agg|%s" % (VERSION, VERSION))
+    same("after an update from " + version, contents(server, name), before)
+    equal("no table or index is written again from " + version, server.ask(FILES, name), files)
+    same("an update makes what a new database has, from " + version, server.ask(MEMBERS, name).split("\n"), members)
+    older = "CREATE EXTENSION hll_sketches VERSION '%s'; CREATE EXTENSION hll_sketches_agg VERSION '%s'" % (version, version)
+    for kind, text, first, last in (("from before", dumped, "", ""), ("from before, into an earlier version", dumped, older, UPDATE),
+                                    ("from after", server.tool("pg_dump", "-d", name), "", "")):
+        target = "%s, dump %s" % (name, kind)
+        server.ask('CREATE DATABASE "%s"' % target)
+        server.ask(first, target)
+        equal("restored " + target, restore(server, text, target), "")
+        same(target, contents(server, target), before)
+        equal("updated " + target, server.run(last, target), "")
+        same("after an update " + target, contents(server, target), before)
+        same("what there is " + target, server.ask(MEMBERS, target).split("\n"), members)
+    writes(server, name)
+
+
+def writes(server, name):
+    """An updated database checks what is written, and puts it into its indexes."""
+    refused("the modifier, updated", server.run("INSERT INTO days VALUES (100, hyperloglog_empty(11));", name), DATA)
+    refused("the domain's modifier, updated", server.run("INSERT INTO days VALUES (100, hyperloglog_empty(12), DEFAULT, hyperloglog_empty(11));", name), DATA)
+    refused("a key twice, updated", server.run("INSERT INTO keys SELECT sketch FROM keys LIMIT 1;", name), "23505")
+    server.ask("INSERT INTO days VALUES (100, (SELECT hyperloglog_agg(x, 12) FROM generate_series(1, 9000) x))", name)
+    equal("a new row by an index", server.ask("SET enable_seqscan = off; SELECT day FROM days WHERE hll_estimate(sketch) > 5000", name), "100")
+    server.ask("REFRESH MATERIALIZED VIEW month", name)
+
+
+def update_of_earlier(server):
+    """What the update from the version that is made up brings is not there before, and works after."""
+    server.ask("CREATE DATABASE old")
+    server.ask(FILL % {"version": EARLIER}, "old")
     refused("what the earlier version has not", server.run("SELECT hll_merge(sketch, sketch) FROM days;", "old"), UNDEFINED)
     refused("short names of the earlier version", server.run("SELECT hll_add_agg(7);", "old"), UNDEFINED)
-    equal("updated", server.run("ALTER EXTENSION hll_sketches UPDATE; ALTER EXTENSION hll_sketches_agg UPDATE;", "old"), "")
-    equal("versions", server.ask("SELECT extname, extversion FROM pg_extension WHERE extname ~ '^hll' ORDER BY 1", "old"),
-          "hll_sketches|0.2\nhll_sketches_agg|0.2")
-    equal("after an update", server.ask(TELLS, "old"), before)
+    equal("updated", server.run(UPDATE, "old"), "")
     equal("what the update brought", server.ask("SELECT bool_and(sketch || sketch = hll_merge(sketch, sketch)), hll_add_agg(7) = hll_image_add_agg(7) "
                                                 "FROM days", "old"), "t|t")
-    equal("a dump restored by this version", restore(server, dumped, "restored"), "")
-    equal("after a dump", server.ask(TELLS, "restored"), before)
-    objects = "SELECT pg_describe_object(classid, objid, 0) FROM pg_depend WHERE refclassid = 'pg_extension'::regclass AND deptype = 'e' ORDER BY 1"
-    equal("an update has what this version has", server.ask(objects, "old"), server.ask(objects, "restored"))
-    equal("one version of each", server.ask("SELECT count(*) FROM pg_available_extension_versions WHERE name ~ '^hll_sk' AND version <> '%s'" % EARLIER), "2")
 
 
 def restore(server, dumped, database):
@@ -153,7 +266,7 @@ NEW = """CREATE SCHEMA sketches;
     CREATE EXTENSION hll_sketches SCHEMA sketches;
     SET search_path = sketches, public;
     CREATE TABLE public.days (day int PRIMARY KEY, image bytea NOT NULL CHECK (hll_is_image(image)), sketch hyperloglog(12, 8) DEFAULT hyperloglog_empty(12),
-        CHECK (# sketch < 1e9));
+        estimate float8 GENERATED ALWAYS AS (# sketch) STORED, CHECK (# sketch < 1e9));
     CREATE DOMAIN public.small_sketch AS hyperloglog(10) CHECK (hll_estimate(VALUE) < 1e9);
     CREATE TABLE public.parts (n int, sketch small_sketch, several hyperloglog[], PRIMARY KEY (n));
     INSERT INTO days SELECT g, hll_image_add_agg(x, 12, 4 + 2 * (g % 3)), hyperloglog_agg(x)
@@ -163,8 +276,8 @@ NEW = """CREATE SCHEMA sketches;
     CREATE VIEW public.joined AS SELECT day, sketch || image AS both_of_them, sketch = '\\x0201070c030c0008' AS is_none FROM days;
     CREATE AGGREGATE public.merged(hyperloglog) (SFUNC = hll_merge, STYPE = hyperloglog, INITCOND = '\\x0201070c030c0008');
     CREATE INDEX ON days ((hll_estimate(image))); CREATE INDEX ON days USING hash (sketch)"""
-ALL_OF_IT = """SET search_path = sketches, public;
-    SELECT count(*), md5(string_agg(image::text || sketch::text, ',' ORDER BY day)), md5((SELECT u FROM month)), md5((SELECT s FROM month)),
+PATH = "SET search_path = sketches, public; "
+ALL_OF_IT = PATH + """SELECT count(*), md5(string_agg(days::text, ',' ORDER BY day)), md5((SELECT u FROM month)), md5((SELECT s FROM month)),
     (SELECT md5(string_agg(joined::text, ',' ORDER BY day)) FROM joined), (SELECT md5(string_agg(parts::text, ',' ORDER BY n)) FROM parts),
     md5(merged(sketch ORDER BY day)), (SELECT string_agg(format_type(atttypid, atttypmod), ',' ORDER BY attrelid, attnum) FROM pg_attribute
         WHERE attrelid IN ('days'::regclass, 'parts'::regclass) AND attnum > 0) FROM days"""
@@ -174,15 +287,17 @@ def dump(server):
     """Tables of bytea and of the type, with what leans on them, dumped and restored, by text and by a file of pg_restore."""
     server.ask("CREATE DATABASE before; CREATE DATABASE after; CREATE DATABASE after_custom")
     server.ask(NEW, "before")
-    before = server.ask(ALL_OF_IT, "before")
+    before, definitions = (server.ask(query, "before") for query in (ALL_OF_IT, PATH + DEFINITIONS))
     check("columns with modifiers", "hyperloglog(12,8)" in before, before[-200:])
     equal("restored without a word", restore(server, server.tool("pg_dump", "-d", "before"), "after"), "")
     equal("dump and restore", server.ask(ALL_OF_IT, "after"), before)
+    same("definitions after a restore", server.ask(PATH + DEFINITIONS, "after").split("\n"), definitions.split("\n"))
     server.tool("pg_dump", "-d", "before", "-Fc", "-f", str(server.file("dump")))
     server.tool("pg_restore", "-d", "after_custom", "-1", str(server.file("dump")))
     equal("dump and pg_restore", server.ask(ALL_OF_IT, "after_custom"), before)
+    same("definitions after pg_restore", server.ask(PATH + DEFINITIONS, "after_custom").split("\n"), definitions.split("\n"))
     refused("a check is restored", server.run("INSERT INTO days VALUES (100, '\\x00');", "after"), CHECKED)
-    said = server.run("SET search_path = sketches, public; INSERT INTO days VALUES (100, '\\x0201070c030c0008', hyperloglog_empty(11));", "after")
+    said = server.run(PATH + "INSERT INTO days VALUES (100, '\\x0201070c030c0008', hyperloglog_empty(11));", "after")
     refused("the modifier is restored", said, "22000")
     equal("a default is restored", server.ask("INSERT INTO days(day, image) VALUES (101, '\\x0201070c030c0008') RETURNING sketch", "after"),
           "\\x0201070c030c0008")

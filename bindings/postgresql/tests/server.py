@@ -9,6 +9,7 @@ import ctypes
 import os
 import pathlib
 import pwd
+import re
 import shutil
 import signal
 import subprocess
@@ -17,7 +18,9 @@ import time
 
 HERE = pathlib.Path(__file__).resolve().parent.parent
 SOURCES = ["Makefile", "*.[ch]", "*.map", "*.control", "hll_*.sql"]
-EARLIER = "0.1.9"       # a version that is made up: what this one has, but for a section that the update brings
+VERSION = re.search(r"^default_version = '(.*)'$", (HERE / "hll_sketches.control").read_text(), re.M)[1]
+# Two versions that are made up: EARLIER has what this one has, but for a section that the update brings. SAME has all of it.
+EARLIER, SAME = "0.1.9", "0.1"
 SETTINGS = """
 listen_addresses = ''
 fsync = off
@@ -163,15 +166,15 @@ class Server:
         self.warnings = [line for line in built.stdout.splitlines() if "warning:" in line]
 
     def make_earlier(self):
-        """Scripts of an earlier version: without merges of two sketches, and without the short names."""
+        """Scripts of EARLIER, without merges of two sketches and without the short names; and of SAME."""
         extensions = self.inside(folder(self.pg_config, "sharedir")) / "extension"
         for name, first, last in (("hll_sketches", "-- ---- two sketches", "-- ---- functions of the aggregates"), ("hll_sketches_agg", "DO $$\nDECLARE", "")):
-            script, = HERE.glob(name + "--*.sql")
-            text, version = script.read_text(), script.stem.split("--")[1]
+            text = (HERE / ("%s--%s.sql" % (name, VERSION))).read_text()
             start = text.index(first)
             end = text.index(last) if last else len(text)
-            (extensions / ("%s--%s.sql" % (name, EARLIER))).write_text(text[:start] + text[end:])
-            (extensions / ("%s--%s--%s.sql" % (name, EARLIER, version))).write_text(text[start:end])
+            for version, script, change in (EARLIER, text[:start] + text[end:], text[start:end]), (SAME, text, "-- nothing has changed\n"):
+                (extensions / ("%s--%s.sql" % (name, version))).write_text(script)
+                (extensions / ("%s--%s--%s.sql" % (name, version, VERSION))).write_text(change)
 
     def start(self):
         data, self.socket = self.root / "data", self.root / "socket"
