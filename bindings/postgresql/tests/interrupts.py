@@ -14,7 +14,8 @@ from long_searches import SLOTS, path_coupons, path_slots, registers_with, strid
 LG_PLACES, COUNT = 17, 100
 SECONDS = 0.5           # until a query is stopped
 LATEST = 2              # seconds until it ends
-EMPTY_SET = bytes.fromhex("030107151208000900000000")
+# A set at lg_k 21 of 129 coupons that descend, in a large table: with 128 it would be quick to read.
+SMALL_SET = bytes.fromhex("0301071512080009") + struct.pack("<130I", 129, *range(2**26 + 129, 2**26, -1))
 
 
 def slow_image():
@@ -40,7 +41,7 @@ QUERIES = {
     "images that go into registers": """SELECT hyperloglog_union_agg(image::hyperloglog, 21 ORDER BY n) FROM (TABLE large_image UNION ALL
         TABLE large_image UNION ALL TABLE slow_images) x""",
     "few bytes": """SELECT hll_image_union_agg(image, 21 ORDER BY n) FROM (TABLE large_image UNION ALL
-        SELECT n, '\\x%s'::bytea FROM generate_series(1, 200000) n) x""" % EMPTY_SET.hex(),
+        SELECT n, '\\x%s'::bytea FROM generate_series(1, 10000) n) x""" % SMALL_SET.hex(),
 }
 
 # From version 16 on the server can let its plan sort, and reads the rows.
