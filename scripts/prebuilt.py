@@ -178,6 +178,7 @@ def with_stable_labels(text):
 
 
 QUOTED = re.compile(r'"([^"]*)"')
+SECTION = re.compile(r'^(\s*\.section\s+)"([^"]*)"')
 DATA = re.compile(r"\s*\.(?:file|ident|ascii|asciz|string)\b")
 
 
@@ -193,8 +194,8 @@ def with_plain_names(text):
     code = "".join(QUOTED.sub("", line) for line in lines if not DATA.match(line))
     taken, plain = set(re.findall(r"[\w.$]+", code)), {}
 
-    def put(found):
-        name = found[1]
+    def put(found, group=1):
+        name = found[group]
         if name not in plain:
             plain[name] = plain_name(name)
         return plain[name]
@@ -203,9 +204,8 @@ def with_plain_names(text):
     for line in lines:
         if DATA.match(line):
             made.append(line)
-        elif line.lstrip().startswith(".section"):      # what follows the name are flags
-            head, comma, flags = line.partition(",")
-            made.append(QUOTED.sub(lambda it: it[1] if it[1].startswith(".note.") else put(it), head) + comma + flags)
+        elif line.lstrip().startswith(".section"):      # what follows the name are flags, which stay in quotes
+            made.append(SECTION.sub(lambda it: it[1] + (it[2] if it[2].startswith(".note.") else put(it, 2)), line))
         else:
             made.append(QUOTED.sub(put, line))
     same = [name for name in plain.values() if list(plain.values()).count(name) > 1 or name in taken]

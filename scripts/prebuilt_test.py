@@ -189,6 +189,8 @@ class NameTest(unittest.TestCase):
 	jmpq	*".Lswitch.table.a::T+b.1.rel"(,%rax,8)
 	.size	"a::b::<#12ab>", .Lfunc_end0-"a::b::<#12ab>"
 	.ascii	"a::b \\"<#12ab>\\""
+	.section	".text.a::<i8,31'b::c{}>","ax",@progbits
+	.section	.text,"ax",@progbits
 	.section	".note.GNU-stack","",@progbits
 """
 
@@ -203,6 +205,8 @@ a.b.12ab:
 	jmpq	*.Lswitch.table.a.T.b.1.rel(,%rax,8)
 	.size	a.b.12ab, .Lfunc_end0-a.b.12ab
 	.ascii	"a::b \\"<#12ab>\\""
+	.section	.text.a._i8_31_b.c,"ax",@progbits
+	.section	.text,"ax",@progbits
 	.section	.note.GNU-stack,"",@progbits
 """)
 
