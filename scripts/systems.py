@@ -89,7 +89,8 @@ MOUNTS = 'mount -t proc proc "$0/proc" && mount --rbind /dev "$0/dev" && mount -
 
 def in_namespace(place, script, seconds, user=None):
     """Runs a script for the shell in a root, as root or as the user. Processes and mounts end with it."""
-    chroot = 'exec chroot "$0" ' + ('su - %s -c "$1"' % user if user else '/bin/sh -c "$1"')
+    # (the shell waits, as process 1 of the namespace has to take what becomes of orphans)
+    chroot = 'chroot "$0" %s; status=$?; exit "$status"' % ('su - %s -c "$1"' % user if user else '/bin/sh -c "$1"')
     words = ["unshare", "--mount", "--pid", "--fork", "--kill-child", "--propagation", "private", "sh", "-c", MOUNTS + chroot]
     kept = {name: value for name, value in os.environ.items() if name.lower().endswith("_proxy")}
     path = "/usr/local/sbin:/usr/local/bin:/usr/sbin:/usr/bin:/sbin:/bin"

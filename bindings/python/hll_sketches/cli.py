@@ -300,6 +300,17 @@ def _flushed() -> None:
         raise OutputTrouble(error) from None
 
 
+def _errors_flushed() -> None:
+    """Flushes standard error. If it can't be written, what is left goes nowhere: otherwise Python's end would
+    fail, and set a status of its own."""
+    if sys.stderr is None:
+        return
+    try:
+        sys.stderr.flush()
+    except OSError:
+        os.dup2(os.open(os.devnull, os.O_WRONLY), 2)
+
+
 def _carried_out(options: argparse.Namespace) -> int:
     """Runs a command and prints what goes wrong."""
     call: Callable[[argparse.Namespace], int] = options.call
@@ -356,6 +367,8 @@ def main(arguments: Optional[List[str]] = None) -> int:
         return _run(arguments)
     except KeyboardInterrupt:
         return _interrupted()
+    finally:
+        _errors_flushed()
 
 
 if __name__ == "__main__":
