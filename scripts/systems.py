@@ -123,14 +123,14 @@ def numbers_in(said):
 
 
 def try_release(tap, release):
-    """Tests a release, as far as its tests are chosen."""
+    """Tests a release, as far as its tests are chosen. Returns whether it could be made."""
     chosen = [(name, command) for name, command in release.tests if tap.chooses("%s: %s" % (release.title, name))]
     if not chosen:
-        return
+        return True
     place, why = made_root(release)
     if place is None:
         print("# not tried: %s, as %s" % (release.title, why), flush=True)
-        return
+        return False
     copied(place)
     for name, command in chosen:
         begun = time.monotonic()
@@ -139,6 +139,7 @@ def try_release(tap, release):
         is_right = status == 0 and counts is not None and counts[0] > 0 and counts[1] == 0
         tap.result("%s: %s" % (release.title, name), is_right, said[-6000:])
         print("# %d tests passed there, %.0f s" % (counts[0] if counts else 0, time.monotonic() - begun), flush=True)
+    return True
 
 
 def main():
@@ -146,10 +147,10 @@ def main():
     why = missing()
     if why:
         print("# not tried: other releases of Debian, as %s" % why)
+        untried = 1
     else:
-        for release in RELEASES:
-            try_release(tap, release)
-    if tap.tests:
+        untried = sum(not try_release(tap, release) for release in RELEASES)
+    if tap.tests or not untried:
         return tap.finish()
     print("1..0")
     return 0

@@ -29,10 +29,14 @@ if [ "${HLL_WALKS:-}" = tenth ]; then
     sequences=200
     walks=100
 fi
+rm -rf "$tests"
 mkdir -p "$tests" || exit 1
 
 # The walks are made by a script, which needs Python; a source package has them.
-if (cd ../../tests && sha256sum --check --status walks.sha256 2>/dev/null) || { has python3 && python3 ../../tests/walks.py; }; then
+if (cd ../../tests && sha256sum --check --status walks.sha256 2>/dev/null); then
+    rows="$rows ../../tests/walks.txt"
+elif has python3; then
+    expect 'walks are made' python3 ../../tests/walks.py
     rows="$rows ../../tests/walks.txt"
 else
     skip 'walks' 'python3, which makes these test vectors, is not here'
@@ -89,10 +93,21 @@ test_names() {
 
 # ---- the calls
 
+# Builds what tests need, whichever tests are chosen: a test of its own if it is chosen.
+build() {
+    what=$1
+    shift
+    if is_chosen "$what"; then
+        expect "$what" "$@"
+    else
+        "$@" >"$tap_said" 2>&1 || cat "$tap_said"
+    fi
+}
+
 compile() {
     name=$1
     shift
-    expect "test of $name compiles" $CC $test_flags -o "$tests/$name" "tests/${name%%-*}.c" "$@"
+    build "test of $name compiles" $CC $test_flags -o "$tests/$name" "tests/${name%%-*}.c" "$@"
 }
 
 test_calls() {
@@ -210,7 +225,7 @@ try_two_folders() {
 
 # The calls, over another build of the proved library.
 test_other_build() {
-    expect 'the library' make_in "$tests/other" "$1"
+    build 'the library' make_in "$tests/other" "$1"
     for name in calls buffers rows registers states; do
         compile "$name-other" "$tests/other/build/libhll.a"
     done
@@ -322,11 +337,11 @@ programs_by_musl() {
 
 test_musl() {
     has musl-gcc || { skip 'musl' 'musl-gcc is not here'; return; }
-    expect 'the library, with musl' make_in "$tests/musl" "$text" CC=musl-gcc build/libhll.a
+    build 'the library, with musl' make_in "$tests/musl" "$text" CC=musl-gcc build/libhll.a
     for name in calls buffers estimates rows registers states threads; do
-        expect "test of $name compiles, with musl" by_musl $name
+        build "test of $name compiles, with musl" by_musl $name
     done
-    expect 'test of refusals compiles, with musl' by_musl refusals "$wraps"
+    build 'test of refusals compiles, with musl' by_musl refusals "$wraps"
     for name in calls buffers estimates threads refusals; do
         run "$name, with musl" "$tests/$name-musl"
     done

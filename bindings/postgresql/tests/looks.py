@@ -62,7 +62,7 @@ def counting_build(server):
     made = subprocess.run(make, stdout=subprocess.PIPE, stderr=subprocess.STDOUT, text=True)
     equal("the build that counts", (made.returncode, made.stdout), (0, ""))
     server.ask("CREATE DATABASE looks")
-    script, = HERE.glob("hll_sketches--*.sql")
+    script = HERE / ("hll_sketches--%s.sql" % re.search("default_version = '(.*)'", (HERE / "hll_sketches.control").read_text())[1])
     text = re.sub(r"^\\echo.*$", "", script.read_text(), flags=re.M)
     server.ask("SET client_min_messages = warning;\n" + text.replace("MODULE_PATHNAME", str(build / "hll_sketches.so")), "looks")
 

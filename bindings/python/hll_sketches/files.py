@@ -264,25 +264,32 @@ def _check_link(name: str, link: str) -> None:
 
 
 def target_of(name: str) -> str:
-    """Returns the path of the file that is written for a name: a link is followed to its end.
+    """Returns the path of the file that is written for a name: links in it are followed to their ends.
 
     Raises
     ------
     OSError
         If a link must not be followed, or links lead in a circle.
     """
-    path = os.fspath(name)
-    for _ in range(MOST_LINKS):
-        try:
-            target = os.readlink(path)
-        except (FileNotFoundError, OSError) as error:
-            if error.errno not in (errno.ENOENT, errno.EINVAL):
-                raise
-            folder, last = os.path.split(path)
-            return os.path.join(os.path.realpath(folder), last)
-        _check_link(name, path)
-        path = os.path.join(os.path.dirname(path), target)
-    raise OSError(errno.ELOOP, os.strerror(errno.ELOOP), name)
+    path = os.sep if os.path.isabs(name) else os.getcwd()
+    rest, links = os.fspath(name).split(os.sep)[::-1], 0
+    while rest:
+        part = rest.pop()
+        if part in ("", os.curdir, os.pardir):
+            path = os.path.dirname(path) if part == os.pardir else path
+            continue
+        step = os.path.join(path, part)
+        if not os.path.islink(step):
+            path = step
+            continue
+        _check_link(name, step)
+        links += 1
+        if links > MOST_LINKS:
+            raise OSError(errno.ELOOP, os.strerror(errno.ELOOP), name)
+        target = os.readlink(step)
+        path = os.sep if os.path.isabs(target) else path
+        rest += target.split(os.sep)[::-1]
+    return path
 
 
 def _status_of(path: str) -> Optional[os.stat_result]:

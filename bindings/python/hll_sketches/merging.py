@@ -12,14 +12,16 @@ import warnings
 from contextlib import closing
 from functools import partial
 from itertools import chain, islice
+from multiprocessing import current_process
+from operator import index
 from typing import Callable, Generator, Iterable, Iterator, List, NamedTuple, Optional, Tuple
 from typing import Union as Either
 
-from ._errors import FilesError, HllError, ImageError, PrecisionError
+from ._errors import ArgumentError, FilesError, HllError, ImageError, PrecisionError
 from ._names import shown
 from ._state import BATCH_BYTES, State
 from ._workers import WorkerLost, Workers
-from .files import STANDARD, Trouble, bytes_of_file, image_trouble
+from .files import STANDARD, UNUSABLE, Trouble, bytes_of_file, image_trouble
 from .finding import found
 from .layout import holds_values
 from .sketch import Sketch
@@ -167,6 +169,9 @@ def _parts(
     groups = _groups(names)
     first = list(islice(groups, 2))
     tasks, call = chain(first, groups), partial(union_of_group, lg_max_k)
+    if jobs > 1 and len(first) > 1 and current_process().daemon:
+        note("merge: a process of multiprocessing that is a daemon starts no others: it merges alone")
+        jobs = 1
     if jobs == 1 or len(first) < 2:
         yield from map(call, tasks)
         return
@@ -180,7 +185,7 @@ def _parts(
         try:
             yield from workers.results(tasks, _is_standard)
         except WorkerLost:
-            raise Trouble("merge", "a process ended before its work was done") from None
+            raise Trouble("merge", "a process ended before its work was done", UNUSABLE) from None
 
 
 def union_of_files(
@@ -281,11 +286,13 @@ def merge_files(
         If a file has another ``lg_k`` than the files before it, and ``lg_max_k`` is not given.
         ``place`` is its path.
     ArgumentError
-        If ``lg_max_k`` or ``width`` is out of range.
+        If ``lg_max_k``, ``width`` or ``jobs`` is out of range.
     """
     if isinstance(paths, (str, bytes, os.PathLike)):
         raise TypeError(f"expected many paths, not one {type(paths).__name__}: pass a list of it")
     bound, width = checked_bounds(lg_max_k, width)
+    if index(jobs) < 1:
+        raise ArgumentError(f"the number of jobs is 1 or more, not {jobs}")
     refused: List[Tuple[str, str]] = []
 
     def refuse(trouble: Trouble) -> None:
@@ -295,7 +302,7 @@ def merge_files(
 
     names = found(_names_of(paths), refuse, _pass_over)
     try:
-        merged = union_of_files(names, bound, width, max(jobs, 1), refuse)
+        merged = union_of_files(names, bound, width, index(jobs), refuse)
     except OtherLgK as trouble:
         raise trouble.error from None
     except Trouble as trouble:

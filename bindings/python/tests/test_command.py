@@ -761,11 +761,16 @@ class OutputsTest(CommandTest):
         ):
             os.chown(shared, of_folder, 0)
             os.chmod(shared, mode)
-            for path, end in ((link, target), (self.folder / "first", target)):
-                if path != link:
+            for path, end in ((link, target), (self.folder / "first", target), (shared / "down" / "mine", target)):
+                if path.parent.name == "down":
+                    link.symlink_to(self.folder)        # a folder on the way
+                    os.lchown(link, owner, owner)
+                    path = link / "mine"
+                elif path != link:
                     path.symlink_to("shared/out.hll")
-                link.symlink_to(target)
-                os.lchown(link, owner, owner)
+                if path.parent != link:
+                    link.symlink_to(target)
+                    os.lchown(link, owner, owner)
                 for command in commands_:
                     target.write_bytes(b"precious")
                     named = [str(path) if word == "a.hll" else word for word in command] + ["--force"]
@@ -780,8 +785,9 @@ class OutputsTest(CommandTest):
                     with self.assertRaises(PermissionError) as caught:
                         Sketch().write(path)
                     self.assertEqual(caught.exception.filename, str(path))
-                link.unlink()
-                path.unlink(missing_ok=True)
+                if path.parent != link:
+                    path.unlink(missing_ok=True)
+                link.unlink(missing_ok=True)
 
     def test_a_read_only_file_system(self):
         self.write("b.hll", image_of(range(9)))

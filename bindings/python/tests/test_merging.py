@@ -15,7 +15,7 @@ from unittest import mock
 
 import common
 from command import COMMAND, CommandTest, TRUNCATED, environment, interruptible, other_user
-from hll_sketches import Sketch, _library, _workers, files, merging, union_of
+from hll_sketches import ArgumentError, Sketch, _library, _workers, files, merging, union_of
 from hll_sketches._errors import explained
 
 FILES = 300
@@ -144,7 +144,7 @@ class MergeTest(LaidOut):
                 self.assertRaises(files.Trouble) as caught:
             merging.union_of_files(names, 12, 8, 2, self.fail)
         words = "merge: a process ended before its work was done"
-        self.assertEqual((str(caught.exception), caught.exception.status), (words, 1))
+        self.assertEqual((str(caught.exception), caught.exception.status), (words, 2))
 
     def test_limits_of_files_and_processes(self):
         """Where not all processes can be started, fewer do the work, and that is said."""
@@ -193,6 +193,17 @@ class MergeTest(LaidOut):
         words = "merge: only [0-9]+ of 20 processes can be used: Too many open files"
         wanted = union_of(IMAGES, 12).to_bytes().hex()
         self.assertRegex(done.stdout, f"^{wanted} {words}\n$", done.stderr)
+
+    def test_jobs(self):
+        """Of a program: a number of 1 or more; a daemon, which may start no process, merges alone and says so."""
+        names = [str(self.folder / name) for name in self.lay_out()] * 4
+        for wrong, kind in ((0, ArgumentError), (-3, ArgumentError), (None, TypeError), ("2", TypeError)):
+            self.assertRaises(kind, merging.merge_files, names, 12, jobs=wrong)
+        wanted = union_of(IMAGES, 12).to_bytes()
+        told = []
+        with mock.patch.object(merging, "current_process", return_value=mock.Mock(daemon=True)):
+            found = merging.union_of_files(names, 12, None, 4, self.fail, note=told.append)
+        self.assertEqual((found.image, len(told)), (wanted, 1))
 
     def test_results_stay_in_order(self):
         """Whichever process is done first, and with some tasks in this process."""

@@ -1,10 +1,20 @@
 /* SPDX-License-Identifier: Apache-2.0 */
-/* What the text of the programs calls by names of glibc, for another C library such as musl. With glibc this file is empty. */
+/*
+ * What the text of the programs calls by names of glibc 2.33, for older versions and for other C libraries such as musl. With
+ * newer versions of glibc this file is empty.
+ */
 #include <features.h>
 
 typedef int not_empty;
 
 #ifndef __GLIBC__
+#define LACKS_NAMES
+#define LACKS_LEAVES
+#elif !__GLIBC_PREREQ(2, 33)
+#define LACKS_LEAVES
+#endif
+
+#ifdef LACKS_NAMES
 #include <stddef.h>
 #include <unistd.h>
 
@@ -14,8 +24,9 @@ ssize_t __write(int file, const void *bytes, size_t size)
 {
     return write(file, bytes, size);
 }
+#endif
 
-#ifdef __x86_64__
+#if defined(LACKS_LEAVES) && defined(__x86_64__)
 #include <cpuid.h>
 
 /* What the processor has, and what of this can be used: eax, ebx, ecx and edx of an instruction `cpuid`. */
@@ -36,5 +47,4 @@ const struct leaf *__x86_get_cpuid_feature_leaf(unsigned index)
         leaf.active[i] = has[i];
     return &leaf;
 }
-#endif
 #endif
