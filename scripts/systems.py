@@ -64,7 +64,7 @@ def missing():
 
 
 def made_root(release):
-    """Returns the root of a release, made anew if it isn't there with these packages; or None, and why not."""
+    """Returns the root of a release, made if it isn't there with these packages; or None, and why not."""
     place = CACHE / release.codename
     mark, wanted = place / "made-of", hashlib.sha256(repr(release.packages).encode()).hexdigest()
     if mark.exists() and mark.read_text() == wanted:

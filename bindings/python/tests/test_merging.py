@@ -175,7 +175,7 @@ class MergeTest(LaidOut):
                 os.remove(self.folder / "one.hll")
 
     def test_limits_in_a_program(self):
-        """The same of ``merge_files``, which warns."""
+        """``merge_files`` goes on with fewer processes too, and warns."""
         names = [str(self.folder / name) for name in self.lay_out()] * 4
         script = "\n".join((
             "import resource, sys, warnings",
