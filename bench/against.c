@@ -28,6 +28,7 @@ struct library {
     hll_status (*join)(unsigned, void *, size_t, size_t *, const uint8_t *, size_t);
     hll_status (*image)(void *, size_t, unsigned, uint8_t *, size_t, size_t *);
     hll_status (*estimate)(void *, size_t, hll_estimation *);
+    hll_status (*estimate_of_image)(const uint8_t *, size_t, hll_estimation *);
     uint32_t (*coupon)(const uint8_t *, size_t);
     /* (a state's registers begin 40 bytes after its start) */
     uint8_t state[HLL_STATE_MOST(MOST) + 64], registers[1 << MOST];
@@ -72,6 +73,7 @@ static void load(struct library *to, const char *path)
     find(handle, "hll_state_join", &to->join);
     find(handle, "hll_state_image", &to->image);
     find(handle, "hll_state_estimate", &to->estimate);
+    find(handle, "hll_estimate", &to->estimate_of_image);
     find(handle, "hll_coupon", &to->coupon);
 }
 
@@ -260,6 +262,14 @@ static void run_estimate(void)
         need(lib->estimate(lib->state, sizeof lib->state, &estimation));
 }
 
+static void run_estimate_of_image(void)
+{
+    int i;
+    hll_estimation estimation;
+    for (i = 0; i < IMAGES; i++)
+        need(lib->estimate_of_image(images[i], lens[i], &estimation));
+}
+
 /* ---- rows ---- */
 
 struct call {
@@ -271,11 +281,11 @@ static const struct call of_registers[] = {
     { "join", run_join }, { "hll_registers_merge", run_registers }, { "union", run_union }, { "add a held value", run_held },
     { "add 100 held values", run_held_values }, { "add 100 held coupons", run_held_coupons }, { "add a value that changes a register", run_rise },
     { "300 new values", run_new_values }, { "image, 8 bits", run_image_8 }, { "image, 6 bits", run_image_6 },
-    { "image, 4 bits", run_image_4 }, { "estimate", run_estimate }, { NULL, NULL },
+    { "image, 4 bits", run_image_4 }, { "estimate", run_estimate }, { "estimate of an image", run_estimate_of_image }, { NULL, NULL },
 };
 static const struct call of_coupons[] = {
     { "join", run_join }, { "join into a new state", run_new_join }, { "union", run_union }, { "merge", run_merge },
-    { "image, 8 bits", run_image_8 }, { "estimate", run_estimate }, { NULL, NULL },
+    { "image, 8 bits", run_image_8 }, { "estimate", run_estimate }, { "estimate of an image", run_estimate_of_image }, { NULL, NULL },
 };
 
 static double now(void)
@@ -390,6 +400,7 @@ int main(int argc, char **argv)
     printf("%-50s %9s %9s %6s\n", "ns a call", "earlier", "later", "ratio");
     for (i = 0; i < 3; i++) {
         print_registers(lg_ks[i], argv + 3);
+        print_coupons(lg_ks[i], 1, argv + 3);
         print_coupons(lg_ks[i], 5, argv + 3);
         print_coupons(lg_ks[i], 20, argv + 3);
     }

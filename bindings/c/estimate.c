@@ -27,18 +27,38 @@ hll_status proved_hll_histogram_estimate(const hll_histogram *histogram, struct 
 /* The greatest finite double. */
 #define GREATEST 1.7976931348623157e308
 
+/* The exponent of 1.0 in the bits of a double, where the exponent has the bits from 52 on. */
+#define EXPONENT_OF_1 ((uint64_t)1023)
+
 /* The number of slots: each of 2^26 slots has the same probability. */
 #define SLOTS 67108864.0
 
 /* The most coupons that are estimated from: one for each slot. */
 #define MOST_COUPONS ((uint64_t)1 << 26)
 
+/* A double and its bits. */
+union word {
+    uint64_t bits;
+    double number;
+};
+
+/* Returns a number that is at least the square root of x and at most 1.0607 of it: its bits are half of those of x, so its
+ * exponent is half of that of x. */
+static double near_square_root(double x)
+{
+    union word word;
+    word.number = x;
+    word.bits = word.bits / 2 + (EXPONENT_OF_1 << 51);
+    return word.number;
+}
+
 /* Returns the square root of a number from 0 to 1, by Newton's method from above. */
 static double square_root(double x)
 {
-    double root = 1.0, before;
+    double root, before;
     if (x <= 0.0)
         return 0.0;
+    root = near_square_root(x);
     do {
         before = root;
         root = 0.5 * (root + x / root);
@@ -74,13 +94,19 @@ static double expected_coupons(double values)
     return sum;
 }
 
-/* Returns the number of values that are expected to have n coupons. */
+/* The most steps to an estimate of coupons. Numbers of coupons up to 300,000 take six. */
+#define STEPS 16
+
+/* Returns the number of values that are expected to have n coupons. A step adds the coupons that are missing, until that
+ * changes nothing. */
 static double estimate_of_coupons(double coupons)
 {
-    double values = coupons;
-    int step;
-    for (step = 0; step < 16; step++)
+    double values = coupons, before;
+    int step = 0;
+    do {
+        before = values;
         values += coupons - expected_coupons(values);
+    } while (values != before && ++step < STEPS);
     return values;
 }
 
@@ -175,10 +201,7 @@ static void bound_by_losses(hll_estimation *found, double coupons)
 /* Returns the double that has these bits. */
 static double number_of_bits(uint64_t bits)
 {
-    union {
-        uint64_t bits;
-        double number;
-    } word;
+    union word word;
     word.bits = bits;
     return word.number;
 }

@@ -116,6 +116,37 @@ static void test_many_coupons(void)
     CHECK(found.estimate > 1.2 * 67108864 && found.estimate < 1.3 * 67108864, "%g of 2^26", found.estimate);
 }
 
+/* Returns the number of values that are expected to have n coupons, by the formula of docs/NUMBERS.md: sixteen steps, whether or not
+ * they change anything. */
+static double after_sixteen_steps(double coupons)
+{
+    double values = coupons;
+    int step, j;
+    for (step = 0; step < 16; step++) {
+        double sum = values, term = values, power = 2.0;
+        for (j = 2; j <= 8; j++) {
+            power += power;
+            term *= -(values - (double)(j - 1)) / (double)j / 67108864.0;
+            sum += term / (power - 1.0);
+        }
+        values += coupons - sum;
+    }
+    return values;
+}
+
+/* The library stops at the first step that changes nothing: the double is that of all steps. Each number to 3,000 is tried, and then
+ * every stride-th to 300,000, as the bounds of many coupons take long. */
+static void test_steps(uint64_t stride)
+{
+    hll_estimation found;
+    uint64_t n;
+    for (n = 0; n <= 300000; n += n < 3000 ? 1 : stride) {
+        double all = after_sixteen_steps((double)n), wanted = all < (double)n ? (double)n : all;
+        CHECK(hll_coupons_estimate(n, &found) == HLL_OK && found.estimate == wanted, "%d coupons: %.17g, not %.17g", (int)n,
+              found.estimate, wanted);
+    }
+}
+
 /* Streams of n values: within four deviations of n, and for coupons within a thousandth. */
 static void test_streams(void)
 {
@@ -312,12 +343,15 @@ static void test_kept(void)
     CHECK(hll_version() == HLL_VERSION_NUMBER && HLL_VERSION_NUMBER == 2000, "the version");
 }
 
-int main(void)
+/* An argument is the stride of numbers of coupons: 1 tries each. */
+int main(int argc, char **argv)
 {
+    const int stride = argc > 1 ? atoi(argv[1]) : 101;
     test_streams();
     test_other_histograms();
     test_corrected();
     test_many_coupons();
+    test_steps((uint64_t)stride);
     test_widths();
     test_numbers();
     test_refusals();

@@ -139,7 +139,7 @@ test_memory() {
     run 'calls in valgrind' $clean "$tests/calls"
     run 'buffers in valgrind' $clean "$tests/buffers" small
     run 'refusals in valgrind' $clean "$tests/refusals"
-    run 'estimates in valgrind' $clean "$tests/estimates"
+    run 'estimates in valgrind' $clean "$tests/estimates" 9973
     run 'rows in valgrind' $clean "$tests/rows" $rows
     run 'registers in valgrind' $clean "$tests/registers" 20 small
     run 'states in valgrind' $clean "$tests/states" 40 small
