@@ -4,9 +4,11 @@
 # HLL_INSTALL=yes or CI=true is in the environment (`./check --install` at the top sets it).
 
 # Whoever runs the tests: messages are English, and the tools of a system are found, as they are by root.
+# (LANGUAGE goes before LC_ALL, unless that is C)
 LC_ALL=C.UTF-8
 PATH=$PATH:/usr/sbin:/sbin
 export LC_ALL PATH
+unset LANGUAGE
 
 has() {
     command -v "$1" >/dev/null 2>&1

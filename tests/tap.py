@@ -7,7 +7,9 @@ import traceback
 import unittest
 
 # Whoever runs the tests: messages are English, and the tools of a system are found, as they are by root.
+# (LANGUAGE goes before LC_ALL, unless that is C)
 os.environ["LC_ALL"] = "C.UTF-8"
+os.environ.pop("LANGUAGE", None)
 os.environ["PATH"] = os.environ.get("PATH", "/usr/bin:/bin") + ":/usr/sbin:/sbin"
 
 
