@@ -111,8 +111,12 @@
 #include <stddef.h>
 #include <stdint.h>
 
+/* A cast, in C++ without a warning of -Wold-style-cast. */
 #ifdef __cplusplus
+#define HLL_CAST(type, value) static_cast<type>(value)
 extern "C" {
+#else
+#define HLL_CAST(type, value) ((type)(value))
 #endif
 
 #define HLL_VERSION_MAJOR 0
@@ -149,18 +153,18 @@ enum { HLL_LIST = 0, HLL_SET = 1, HLL_REGISTERS = 2 };
 
 /* Enough bytes for every image of this lg_k or a smaller one, at each width: 40 for the header, one for each register, and
  * four for each exception of 4-bit registers. */
-#define HLL_IMAGE_MAX(lg_k) ((size_t)40 + ((size_t)5 << (lg_k)))
+#define HLL_IMAGE_MAX(lg_k) (HLL_CAST(size_t, 40) + (HLL_CAST(size_t, 5) << (lg_k)))
 
 /* The size of the largest image of this lg_k and width. With 8 and 6 bits every image of registers has this size. With 4 bits
  * only an image in which all registers but one are exceptions has this size. */
 #define HLL_IMAGE_ROOM(lg_k, width)                                                                                    \
-    ((width) == 8   ? (size_t)40 + ((size_t)1 << (lg_k))                                                               \
-     : (width) == 6 ? (size_t)41 + ((size_t)3 << (lg_k)) / 4                                                           \
-                    : (size_t)36 + ((size_t)9 << (lg_k)) / 2)
+    ((width) == 8   ? HLL_CAST(size_t, 40) + (HLL_CAST(size_t, 1) << (lg_k))                                           \
+     : (width) == 6 ? HLL_CAST(size_t, 41) + (HLL_CAST(size_t, 3) << (lg_k)) / 4                                       \
+                    : HLL_CAST(size_t, 36) + (HLL_CAST(size_t, 9) << (lg_k)) / 2)
 
 /* A raw coupon, a coupon as 32 bits, is the coupon's value * 2^26 + its slot. */
-#define HLL_COUPON_SLOT(coupon) ((uint32_t)(coupon) & UINT32_C(0x3ffffff))
-#define HLL_COUPON_VALUE(coupon) ((uint8_t)((uint32_t)(coupon) >> 26))
+#define HLL_COUPON_SLOT(coupon) (HLL_CAST(uint32_t, coupon) & UINT32_C(0x3ffffff))
+#define HLL_COUPON_VALUE(coupon) HLL_CAST(uint8_t, HLL_CAST(uint32_t, coupon) >> 26)
 
 /* What an image says about its sketch. Members that its stage doesn't have are 0. A later version may add members. */
 typedef struct hll_info {
@@ -403,11 +407,13 @@ hll_status hll_registers_image(const uint8_t *registers, size_t count, unsigned 
  */
 
 /* The size of a new state, in bytes. */
-#define HLL_STATE_NEW ((size_t)40)
+#define HLL_STATE_NEW HLL_CAST(size_t, 40)
 
 /* Enough bytes for every state of this lg_k: 40, one for each register, and half of that number (64 if lg_k is below 7) for the
  * coupons that become registers. */
-#define HLL_STATE_MOST(lg_k) ((size_t)40 + ((size_t)1 << (lg_k)) + ((lg_k) < 7 ? (size_t)64 : (size_t)1 << ((lg_k)-1)))
+#define HLL_STATE_MOST(lg_k)                                                                                           \
+    (HLL_STATE_NEW + (HLL_CAST(size_t, 1) << (lg_k)) +                                                                 \
+     ((lg_k) < 7 ? HLL_CAST(size_t, 64) : HLL_CAST(size_t, 1) << ((lg_k)-1)))
 
 /* Makes the state of an empty sketch.
  * Returns HLL_OK, HLL_ARGUMENT, or HLL_BUFFER if room is below HLL_STATE_NEW. Allocates nothing. */
@@ -560,7 +566,7 @@ static inline uint8_t hll_image_lg_k(const uint8_t *image, size_t len)
 static inline uint8_t hll_image_width(const uint8_t *image, size_t len)
 {
     uint8_t bits = 8 <= len ? image[7] >> 2 & 3 : 3;
-    return bits == 3 ? 0 : (uint8_t)(4 + 2 * bits);
+    return bits == 3 ? 0 : HLL_CAST(uint8_t, 4 + 2 * bits);
 }
 
 static inline uint8_t hll_image_stage(const uint8_t *image, size_t len)
@@ -569,31 +575,37 @@ static inline uint8_t hll_image_stage(const uint8_t *image, size_t len)
     return stage == 3 ? 0 : stage;
 }
 
+/* Returns the 32-bit number in four bytes, the lowest byte first. */
+static inline uint32_t hll_number(const uint8_t *bytes)
+{
+    return bytes[0] | HLL_CAST(uint32_t, bytes[1]) << 8 | HLL_CAST(uint32_t, bytes[2]) << 16 | HLL_CAST(uint32_t, bytes[3]) << 24;
+}
+
 /* Returns the size that the header of an image gives, without checking the rest: quick, and exact if the bytes are an image.
- * Returns 0 if the header gives no size: if the image has a table of buckets, and if the header is cut off or is wrong. */
+ * The header is the first 8 bytes of a list, 12 of a set and 40 of registers. Returns 0 if it is cut off or gives no size. */
 static inline size_t hll_image_header_size(const uint8_t *image, size_t len)
 {
     uint8_t lg_k = hll_image_lg_k(image, len), width = hll_image_width(image, len), stage = hll_image_stage(image, len);
     size_t header = stage == HLL_LIST ? 8 : stage == HLL_SET ? 12 : 40, count;
-    const uint8_t *end;
     if (lg_k == 0 || width == 0 || len < header)
         return 0;
     if (stage == HLL_REGISTERS && width != 4)
         return HLL_IMAGE_ROOM(lg_k, width);
     if (stage == HLL_LIST)
-        return image[5] & 4 ? 8 : image[5] & 8 ? 8 + 4 * (size_t)image[6] : 0;
-    end = image + header;
-    count = end[-4] | (size_t)end[-3] << 8 | (size_t)end[-2] << 16 | (size_t)end[-1] << 24;
-    if (!(image[5] & 8) && (stage == HLL_SET || count != 0))
-        return 0;
-    return header + (stage == HLL_SET ? 0 : ((size_t)1 << lg_k) / 2) + 4 * count;
+        return image[5] & 4 ? 8 : 8 + 4 * HLL_CAST(size_t, image[5] & 8 ? image[6] : 8);
+    count = hll_number(image + header - 4);
+    if (!(image[5] & 8) && (stage == HLL_SET || count != 0)) { /* all buckets */
+        if (image[4] > 21)
+            return 0;
+        count = HLL_CAST(size_t, 1) << image[4];
+    }
+    return header + (stage == HLL_SET ? 0 : (HLL_CAST(size_t, 1) << lg_k) / 2) + 4 * count;
 }
 
 /* Returns a 32-bit number in a state. */
 static inline uint32_t hll_state_number(const void *state, size_t at)
 {
-    const uint8_t *bytes = (const uint8_t *)state + 4 * at;
-    return bytes[0] | (uint32_t)bytes[1] << 8 | (uint32_t)bytes[2] << 16 | (uint32_t)bytes[3] << 24;
+    return hll_number(HLL_CAST(const uint8_t *, state) + 4 * at);
 }
 
 /* Returns the lg_k of a state. */
@@ -622,9 +634,9 @@ static inline uint8_t hll_state_stage(const void *state)
 static inline size_t hll_state_size(const void *state)
 {
     uint8_t lg_k = hll_state_lg_k(state);
-    size_t used = hll_state_number(state, 6), few = lg_k < 8 ? 7 : (size_t)3 << (lg_k - 5);
+    size_t used = hll_state_number(state, 6), few = lg_k < 8 ? 7 : HLL_CAST(size_t, 3) << (lg_k - 5);
     if (hll_state_stage(state) == HLL_REGISTERS)
-        return HLL_STATE_NEW + ((size_t)1 << lg_k);
+        return HLL_STATE_NEW + (HLL_CAST(size_t, 1) << lg_k);
     return used <= few ? HLL_STATE_NEW + 4 * used : HLL_STATE_MOST(lg_k);
 }
 

@@ -193,7 +193,7 @@ static void time_reads(const char *name, size_t n)
         std::puts("none");
 }
 
-static void time_unions(size_t n, unsigned width)
+static void time_unions(size_t n, hll::width width)
 {
     std::vector<hll::sketch> sketches;
     std::vector<std::vector<uint8_t>> images;
@@ -210,7 +210,7 @@ static void time_unions(size_t n, unsigned width)
     }
     for (const auto &image : images)
         parts.push_back({image.data(), image.size()});
-    const std::string name = "1,000 of " + std::to_string(n) + " values, " + std::to_string(width) + " bits: ";
+    const std::string name = "1,000 of " + std::to_string(n) + " values, " + std::to_string(hll::bits_of(width)) + " bits: ";
     const auto plain = [&] {
         need(hll_images_unionv(12, 8, parts.data(), parts.size(), out.data(), out.size(), &size, &failed));
     };
@@ -255,7 +255,7 @@ int main()
     time_reads("20 values", 20);
     time_reads("300 values", 300);
     time_reads("registers", 20000);
-    for (unsigned width : {8u, 6u, 4u})
+    for (const hll::width width : {hll::width::hll_8, hll::width::hll_6, hll::width::hll_4})
         time_unions(20480, width);
     time_unions(20, 8);
     time_unions(300, 8);

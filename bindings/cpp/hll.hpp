@@ -11,16 +11,21 @@
 //     week.update_image(image.data(), image.size());
 //     std::cout << week.estimate() << " distinct values\n";
 //
-// Memory. A sketch and a union own their memory and free it: 76 bytes with up to nine values, four bytes for each
-// further value, and one byte for each register later. Copies are independent. A sketch that was moved from is empty,
-// and can be used again.
+// Memory. A sketch and a union own their memory and free it: 76 bytes with up to nine values, then up to one and a half
+// times what their coupons need, which is four bytes for each value. Registers have one byte each, at every width.
+// Shortly before coupons become registers there is room for both (HLL_STATE_MOST). memory_size() returns the bytes, and
+// shrink_to_fit() frees those that are not used. Copies are independent. A sketch that was moved from is empty, and can
+// be used again.
 //
 // Exceptions. After an exception the object is as it was before the call.
-//     hll::image_error         the bytes are not the image of a sketch; status() and reason() say why
+//     hll::image_error         the bytes are not the image of a sketch; status() and reason() say why. A stream that
+//                              ends inside an image is HLL_TRUNCATED
 //     hll::lg_k_error          a union without a bound was given a sketch of another lg_k
 //     std::invalid_argument    an argument is out of range
 //     std::bad_alloc           an allocation failed
-//     std::logic_error         other code has overwritten the memory of the object
+//     std::logic_error         other code has overwritten the memory of the object, or the library that the program
+//                              runs with has another version than the header
+//     std::ios_base::failure   a stream did not take an image
 //
 // Threads. Several threads can call const members of one object at once, as with a container of the standard library.
 // While one thread calls another member, no other thread may use the object. The calls of hll.h that read a state may
@@ -31,12 +36,14 @@
 #ifndef HLL_HPP
 #define HLL_HPP
 
-#include <hll.h>
+#include "hll.h"
 
 #include <algorithm>
 #include <cmath>
 #include <cstdint>
 #include <cstring>
+#include <initializer_list>
+#include <istream>
 #include <new>
 #include <ostream>
 #include <sstream>
@@ -50,6 +57,21 @@
 #endif
 
 namespace hll {
+
+/// The number of bits of a register in an image. It changes the size of images, and nothing else: what is counted and
+/// the memory of a sketch are the same at each width.
+enum class width : uint8_t { hll_4 = 4, hll_6 = 6, hll_8 = 8 };
+
+/// Returns the width of this number of bits. Throws std::invalid_argument for another number than 4, 6 and 8.
+inline width width_of(unsigned bits)
+{
+    if (bits != 4 && bits != 6 && bits != 8)
+        throw std::invalid_argument("the width is " + std::to_string(bits) + " bits; it must be 4, 6 or 8");
+    return static_cast<width>(bits);
+}
+
+/// Returns the number of bits of a width: 4, 6 or 8.
+constexpr unsigned bits_of(width given) { return static_cast<unsigned>(given); }
 
 /// The bytes are not the image of a sketch.
 class image_error : public std::runtime_error {
@@ -126,13 +148,6 @@ inline unsigned checked_lg_k(unsigned lg_k)
     return lg_k;
 }
 
-inline unsigned checked_width(unsigned width)
-{
-    if (width != 4 && width != 6 && width != 8)
-        throw std::invalid_argument("the width is " + std::to_string(width) + " bits; it must be 4, 6 or 8");
-    return width;
-}
-
 inline const uint8_t *checked_bytes(const void *bytes, size_t size)
 {
     if (bytes == nullptr && size != 0)
@@ -153,6 +168,53 @@ inline void check(hll_status status)
         throw std::bad_alloc();
     if (status != HLL_OK) // bytes that other code has overwritten
         throw std::logic_error(std::string("the memory of a sketch is damaged: ") + hll_message(status));
+}
+
+/// Throws if the library has another version than hll.h had when the program was compiled. Before 1.0 the first two of
+/// its three numbers have to be the same.
+inline void check_version()
+{
+    static const bool is_same = hll_version() / 1000 == HLL_VERSION_NUMBER / 1000;
+    if (!is_same)
+        throw std::logic_error("the program was compiled with the hll.h of version " +
+                               std::to_string(HLL_VERSION_MAJOR) + "." + std::to_string(HLL_VERSION_MINOR) +
+                               ", and runs with libhll " + std::to_string(hll_version() / 1000000) + "." +
+                               std::to_string(hll_version() / 1000 % 1000) + ": compile it again");
+}
+
+/// Reads from a stream until there are `size` bytes, in blocks, so a wrong size takes no more memory than there are
+/// bytes.
+inline void read_up_to(std::istream &in, std::vector<uint8_t> &bytes, size_t size)
+{
+    constexpr size_t block = 65536;
+    while (bytes.size() < size) {
+        const size_t had = bytes.size(), some = std::min(size - had, +block);
+        bytes.resize(had + some);
+        in.read(reinterpret_cast<char *>(bytes.data() + had), static_cast<std::streamsize>(some));
+        const size_t got = static_cast<size_t>(in.gcount());
+        if (got < some)
+            throw image_error(HLL_TRUNCATED, had + got);
+    }
+}
+
+/// Reads the bytes of the image that comes next in a stream: all that its header announces, and no more.
+inline std::vector<uint8_t> next_image(std::istream &in)
+{
+    std::vector<uint8_t> image;
+    read_up_to(in, image, 8);
+    const uint8_t stage = hll_image_stage(image.data(), image.size());
+    if (stage != HLL_LIST)
+        read_up_to(in, image, stage == HLL_SET ? 12 : 40);
+    read_up_to(in, image, hll_image_header_size(image.data(), image.size()));
+    return image;
+}
+
+/// Writes bytes to a stream.
+inline void put(std::ostream &out, const std::vector<uint8_t> &bytes)
+{
+    out.write(reinterpret_cast<const char *>(bytes.data()), static_cast<std::streamsize>(bytes.size()));
+    if (!out)
+        throw std::ios_base::failure("a stream did not take the " + std::to_string(bytes.size()) + " bytes of an image");
 }
 
 /// Owns the bytes of a state (hll.h, "states"). If it has no bytes, the sketch is empty: a new state and a state that
@@ -232,21 +294,41 @@ class state {
         return found;
     }
 
-    std::vector<uint8_t> image(unsigned width) const
+    /// Returns the image after `before` bytes, which are 0.
+    std::vector<uint8_t> image(width given, size_t before = 0) const
     {
         state copy = scratch();
-        std::vector<uint8_t> out(copy.bytes_.size()); // enough, unless 4-bit registers have many exceptions
+        std::vector<uint8_t> out(before + copy.bytes_.size()); // enough, unless 4-bit registers have many exceptions
         size_t size = 0;
-        hll_status status =
-            hll_state_image(copy.bytes_.data(), copy.bytes_.size(), width, out.data(), out.size(), &size);
+        hll_status status = copy.put_image(given, out.data() + before, out.size() - before, &size);
         if (status == HLL_BUFFER) {
-            out.resize(size);
-            status = hll_state_image(copy.bytes_.data(), copy.bytes_.size(), width, out.data(), out.size(), &size);
+            out.resize(before + size);
+            status = copy.put_image(given, out.data() + before, size, &size);
         }
         check(status);
-        out.resize(size);
+        out.resize(before + size);
         out.shrink_to_fit();
         return out;
+    }
+
+    /// Returns the size of the image.
+    size_t image_size(width given) const
+    {
+        size_t size = 0;
+        const hll_status status = scratch().put_image(given, nullptr, 0, &size);
+        if (status != HLL_BUFFER) // which is what no room gives
+            check(status);
+        return size;
+    }
+
+    /// Returns the bytes that are allocated.
+    size_t room() const noexcept { return bytes_.capacity(); }
+
+    /// Frees the bytes that the sketch doesn't use.
+    void shrink()
+    {
+        std::vector<uint8_t> exact(bytes_.data(), bytes_.data() + size());
+        bytes_.swap(exact);
     }
 
   private:
@@ -255,9 +337,15 @@ class state {
 
     size_t size() const noexcept { return bytes_.empty() ? 0 : hll_state_size(bytes_.data()); }
 
+    hll_status put_image(width given, uint8_t *out, size_t out_room, size_t *size)
+    {
+        return hll_state_image(bytes_.data(), bytes_.size(), bits_of(given), out, out_room, size);
+    }
+
     void start()
     {
         if (bytes_.empty()) {
+            check_version();
             std::vector<uint8_t> fresh(first_room);
             check(hll_state_new(lg_k_, fresh.data(), fresh.size()));
             bytes_.swap(fresh);
@@ -332,14 +420,31 @@ typename std::enable_if<std::is_arithmetic<Number>::value>::type hash_batch(cons
     check(hll_coupons_fixed(bytes, 8 * n, 8, coupons, n));
 }
 
-/// Writes the coupons of n strings or other containers of bytes, at most `batch`.
+inline size_t length_of(const char *text)
+{
+    if (text == nullptr)
+        throw std::invalid_argument("the text is a null pointer");
+    return std::strlen(text);
+}
+
+/// Returns the coupon of a text, or of another container of bytes.
+inline uint32_t coupon_of(const char *text)
+{
+    return hll_coupon(reinterpret_cast<const uint8_t *>(text), length_of(text));
+}
+template <class Text> uint32_t coupon_of(const Text &text)
+{
+    static_assert(sizeof *text.data() == 1, "values are numbers, texts, or containers of bytes");
+    return hll_coupon(reinterpret_cast<const uint8_t *>(text.data()), text.size());
+}
+
+/// Writes the coupons of n texts or other containers of bytes, at most `batch`.
 template <class Text>
 typename std::enable_if<!std::is_arithmetic<Text>::value>::type hash_batch(const Text *values, size_t n,
                                                                            uint32_t *coupons)
 {
-    static_assert(sizeof *values->data() == 1, "values are numbers, strings, or containers of bytes");
     for (size_t i = 0; i < n; i++)
-        coupons[i] = hll_coupon(reinterpret_cast<const uint8_t *>(values[i].data()), values[i].size());
+        coupons[i] = coupon_of(values[i]);
 }
 
 template <class Value> void hash_all(const Value *values, size_t n, uint32_t *coupons)
@@ -362,12 +467,7 @@ class counter {
 
     /// Adds a text: its bytes, which should be UTF-8. The empty text is a value like any other.
     void update(const std::string &value) { update(value.data(), value.size()); }
-    void update(const char *value)
-    {
-        if (value == nullptr)
-            throw std::invalid_argument("the text is a null pointer");
-        update(value, std::strlen(value));
-    }
+    void update(const char *value) { update(value, length_of(value)); }
 #if __cplusplus >= 201703L
     void update(std::string_view value) { update(value.data(), value.size()); }
 #endif
@@ -381,10 +481,12 @@ class counter {
         }));
     }
 
-    /// Adds n values, all or none: numbers, strings, or containers of bytes. Takes about half the time of adding them
+    /// Adds n values, all or none: numbers, texts, or containers of bytes. Takes about half the time of adding them
     /// one by one.
     template <class Value> void update_many(const Value *values, size_t n)
     {
+        static_assert(!std::is_same<Value, char>::value,
+                      "characters are one text, which update adds; numbers of 8 bits are int8_t or uint8_t");
         checked_bytes(values, n);
         uint32_t coupons[batch];
         if (n > batch && !state_.has_registers()) {
@@ -399,8 +501,22 @@ class counter {
         }
     }
 
-    /// Adds the values of a contiguous container, such as std::vector or std::array.
-    template <class Container> void update_many(const Container &values) { update_many(values.data(), values.size()); }
+    /// Adds the values of a contiguous container, such as std::vector or std::array, or of a list in braces. A text is one
+    /// value: update adds it.
+    template <class Container>
+    auto update_many(const Container &values) -> decltype(values.data(), static_cast<void>(values.size()))
+    {
+        update_many(values.data(), values.size());
+    }
+    template <class Value> void update_many(std::initializer_list<Value> values)
+    {
+        update_many(values.begin(), values.size());
+    }
+    void update_many(const std::string &) = delete; // a text is one value: update(text)
+    void update_many(const char *) = delete;        // a text is one value: update(text)
+#if __cplusplus >= 201703L
+    void update_many(std::string_view) = delete; // a text is one value: update(text)
+#endif
 
     /// Adds n raw coupons, as hll_coupon returns them.
     void update_coupons(const uint32_t *coupons, size_t n)
@@ -430,6 +546,12 @@ class counter {
 
     /// Removes all values, and frees the memory.
     void reset() noexcept { state_.clear(); }
+
+    /// Returns the bytes that are allocated, in addition to the object itself.
+    size_t memory_size() const noexcept { return state_.room(); }
+
+    /// Frees the bytes that are allocated and not used.
+    void shrink_to_fit() { state_.shrink(); }
 
   protected:
     explicit counter(state given) noexcept : state_(std::move(given)) {}
@@ -462,25 +584,25 @@ class counter {
 
 } // namespace detail
 
-/// Counts distinct values. In datasketches-cpp this class is hll_sketch. Its get_estimate and get_composite_estimate
-/// are estimate here, get_lower_bound and get_upper_bound are lower_bound and upper_bound, get_lg_config_k is lg_k,
-/// get_target_type is width, and serialize_compact and serialize_updatable are serialize.
+/// Counts distinct values. <hll/datasketches.hpp> has this class and the next under the names of datasketches-cpp.
 class sketch : public detail::counter {
   public:
-    /// Makes an empty sketch of 2^lg_k registers; lg_k is 4 to 21. The width is the number of bits of a register in an
-    /// image: 4, 6 or 8. It changes the size of images, and nothing else.
-    explicit sketch(unsigned lg_k = detail::default_lg_k, unsigned width = 8)
-        : counter(detail::state(lg_k)), width_(static_cast<uint8_t>(detail::checked_width(width)))
+    /// Makes an empty sketch of 2^lg_k registers; lg_k is 4 to 21. The width is that of its images.
+    explicit sketch(unsigned lg_k = detail::default_lg_k, hll::width width = hll::width::hll_8)
+        : counter(detail::state(lg_k)), width_(width)
     {
     }
+
+    /// Copies a sketch, with another width.
+    sketch(const sketch &other, hll::width width) : counter(other.state_), width_(width) {}
 
     /// Returns the sketch of an image, which is checked whole. Bytes after the image are not read. If the bytes are
     /// untrusted, call is_small first.
     static sketch deserialize(const void *image, size_t size)
     {
         const uint8_t *bytes = detail::checked_bytes(image, size);
-        const unsigned lg_k = hll_image_lg_k(bytes, size), width = hll_image_width(bytes, size);
-        sketch made(lg_k ? lg_k : detail::default_lg_k, width ? width : 8); // if the header is wrong, join returns the reason
+        const unsigned lg_k = hll_image_lg_k(bytes, size), bits = hll_image_width(bytes, size);
+        sketch made(lg_k ? lg_k : detail::default_lg_k, width_of(bits ? bits : 8)); // if the header is wrong, join returns the reason
         const hll_status status = made.state_.join(made.lg_k(), bytes, size);
         if (detail::is_refusal(status))
             throw image_error(status, size);
@@ -488,12 +610,43 @@ class sketch : public detail::counter {
         return made;
     }
     static sketch deserialize(const std::vector<uint8_t> &image) { return deserialize(image.data(), image.size()); }
+    static sketch deserialize(const std::vector<char> &image) { return deserialize(image.data(), image.size()); }
+    static sketch deserialize(const std::string &image) { return deserialize(image.data(), image.size()); }
+    static sketch deserialize(const char *) = delete; // its length is not known: deserialize(image, size)
 
-    /// Returns the image, at the width of the sketch or at the width given.
-    std::vector<uint8_t> serialize() const { return state_.image(width_); }
-    std::vector<uint8_t> serialize(unsigned width) const { return state_.image(detail::checked_width(width)); }
+    /// Reads the image that comes next in a stream, and leaves the stream after it, so several sketches can follow each
+    /// other: `while (in.peek() != EOF) sketches.push_back(hll::sketch::deserialize(in));`.
+    static sketch deserialize(std::istream &in) { return deserialize(detail::next_image(in)); }
 
-    unsigned width() const noexcept { return width_; }
+    /// Returns the image, at the width of the sketch or at the width given. It is compact.
+    std::vector<uint8_t> serialize() const { return serialize(width_); }
+    std::vector<uint8_t> serialize(hll::width width) const { return state_.image(width); }
+
+    /// A number would be a width to some readers, and room before the image to others: write
+    /// serialize(hll::width::hll_8), or serialize_after(8).
+    template <class Number>
+    typename std::enable_if<std::is_arithmetic<Number>::value, std::vector<uint8_t>>::type
+    serialize(Number) const = delete; // serialize(hll::width::hll_8) or serialize_after(8)?
+
+    /// Returns the image after `room` bytes, which are 0, for a header of the caller's.
+    std::vector<uint8_t> serialize_after(size_t room) const { return serialize_after(room, width_); }
+    std::vector<uint8_t> serialize_after(size_t room, hll::width width) const { return state_.image(width, room); }
+
+    /// Writes the image to a stream.
+    void serialize(std::ostream &out) const { serialize(out, width_); }
+    void serialize(std::ostream &out, hll::width width) const { detail::put(out, state_.image(width)); }
+
+    /// Returns the size of the image, in the time of writing it.
+    size_t serialized_size() const { return serialized_size(width_); }
+    size_t serialized_size(hll::width width) const { return state_.image_size(width); }
+
+    /// Returns the size of the largest image of an lg_k.
+    static size_t max_serialized_size(unsigned lg_k, hll::width width)
+    {
+        return HLL_IMAGE_ROOM(detail::checked_lg_k(lg_k), bits_of(width));
+    }
+
+    hll::width width() const noexcept { return width_; }
 
     void swap(sketch &other) noexcept
     {
@@ -506,7 +659,7 @@ class sketch : public detail::counter {
         const hll_estimation found = estimation();
         std::ostringstream text;
         text.precision(15);
-        text << "sketch of lg_k " << lg_k() << ", " << width() << " bits a register: about "
+        text << "sketch of lg_k " << lg_k() << ", " << bits_of(width_) << " bits a register: about "
              << std::round(found.estimate) << " distinct values, with 95% certainty " << std::floor(found.lower[1])
              << " to " << std::ceil(found.upper[1]);
         return text.str();
@@ -514,13 +667,9 @@ class sketch : public detail::counter {
 
   private:
     friend class union_;
-    sketch(detail::state given, unsigned width)
-        : counter(std::move(given)), width_(static_cast<uint8_t>(detail::checked_width(width)))
-    {
-        state_.keep_lg_k();
-    }
+    sketch(detail::state given, hll::width width) : counter(std::move(given)), width_(width) { state_.keep_lg_k(); }
 
-    uint8_t width_;
+    hll::width width_;
 };
 
 /// Returns whether both sketches have the same image.
@@ -541,7 +690,7 @@ inline std::ostream &operator<<(std::ostream &out, const sketch &given)
     return out << given.to_string();
 }
 
-/// Merges sketches, images and values. In datasketches-cpp this class is hll_union, and result is get_result.
+/// Merges sketches, images and values.
 class union_ : public detail::counter {
   public:
     /// Makes a union that merges sketches of every lg_k. Its lg_k is lg_max_k, 4 to 21, or the smallest lg_k of the
@@ -598,7 +747,7 @@ class union_ : public detail::counter {
     }
 
     /// Returns the union as a sketch.
-    sketch result(unsigned width = 8) const { return sketch(state_, width); }
+    sketch result(hll::width width = hll::width::hll_8) const { return sketch(state_, width); }
 
     /// Returns the bound, or 0 if there is none.
     unsigned lg_max_k() const noexcept { return lg_max_k_; }

@@ -89,7 +89,9 @@ static size_t refuse_each(Begin begin, Call call, Unchanged is_unchanged)
     }
 }
 
-static sketch filled(unsigned lg_k, unsigned width, int from, int n)
+static const hll::width four = hll::width::hll_4, six = hll::width::hll_6, eight = hll::width::hll_8;
+
+static sketch filled(unsigned lg_k, hll::width width, int from, int n)
 {
     sketch made(lg_k, width);
     for (int i = from; i < from + n; i++)
@@ -103,7 +105,7 @@ static const int sizes[] = {0, 9, 300, 5000};
 
 static void test_changes(int size)
 {
-    const sketch start = filled(12, 4, 0, size);
+    const sketch start = filled(12, four, 0, size);
     const image_bytes before = start.serialize();
     std::vector<int> values(2000);
     std::vector<uint32_t> coupons;
@@ -121,7 +123,7 @@ static void test_changes(int size)
     }
     refuse_each(begin, [&] { one.update_coupons(coupons.data(), coupons.size()); }, is_unchanged);
     CHECK(one.estimate() > 1900);
-    CHECK(refuse_each(begin, [&] { one = filled(9, 8, 0, 5); }, is_unchanged) >= 1);
+    CHECK(refuse_each(begin, [&] { one = filled(9, eight, 0, 5); }, is_unchanged) >= 1);
 }
 
 // More values than one call adds, into a sketch that would grow several times meanwhile.
@@ -130,16 +132,16 @@ static void test_batches()
     std::vector<int> values(5000);
     for (int &value : values)
         value = static_cast<int>(&value - values.data());
-    const sketch start = filled(14, 8, -3, 3);
+    const sketch start = filled(14, eight, -3, 3);
     sketch one;
     const auto begin = [&] { one = start; };
     CHECK(refuse_each(begin, [&] { one.update_many(values); }, [&] { return one == start; }) >= 1);
-    CHECK(one == filled(14, 8, -3, 5003));
+    CHECK(one == filled(14, eight, -3, 5003));
 }
 
 static void test_reads(int size)
 {
-    const sketch one = filled(12, 4, 0, size);
+    const sketch one = filled(12, four, 0, size);
     const image_bytes before = one.serialize();
     const auto begin = [] {};
     const auto is_unchanged = [&] { return one.serialize() == before; };
@@ -147,16 +149,23 @@ static void test_reads(int size)
     CHECK(refuse_each(begin, [&] { one.estimate(); }, is_unchanged) == 1);
     CHECK(refuse_each(begin, [&] { one.serialize(); }, is_unchanged) >= 2);
     CHECK(refuse_each(begin, [&] { one.to_string(); }, is_unchanged) >= 1);
+    CHECK(refuse_each(begin, [&] { one.serialized_size(); }, is_unchanged) >= 1);
+    CHECK(refuse_each(begin, [&] { sketch other(one, six); }, is_unchanged) == (size == 0 ? 0 : 1));
+    sketch smaller = one;
+    smaller.update(-5);
+    const image_bytes larger = smaller.serialize();
+    CHECK(refuse_each(begin, [&] { smaller.shrink_to_fit(); }, [&] { return smaller.serialize() == larger; }) == 1);
+    CHECK(smaller.serialize() == larger && smaller.memory_size() <= (size == 5000 ? 4136 : 40 + 4 * (size_t(size) + 1)));
     CHECK(refuse_each(begin, [&] { sketch::deserialize(before); }, is_unchanged) >= 1);
 }
 
 static void test_unions(int size)
 {
     union_ start(12);
-    start.update(filled(12, 8, 0, size));
+    start.update(filled(12, eight, 0, size));
     const image_bytes before = start.result().serialize();
     for (int n : {3, 300, 5000}) {
-        const sketch other = filled(12, 6, 1000000, n);
+        const sketch other = filled(12, six, 1000000, n);
         const image_bytes image = other.serialize();
         const image_bytes wanted = plain_union(12, 8, {before, image});
         union_ all;
@@ -194,7 +203,7 @@ static void test_room()
     sketch many[1000];
     for (sketch &one : many)
         one.update(1);
-    CHECK(largest == 76 && sizeof(sketch) <= 40);
+    CHECK(largest == 76 && sizeof(sketch) <= 40 && many[0].memory_size() == 76);
 }
 
 // ---- const members
@@ -216,20 +225,20 @@ static void test_const_members()
     need(mapped != MAP_FAILED, "mmap");
     pages = static_cast<uint8_t *>(mapped);
     for (int size : {9, 300, 5000}) {
-        const sketch given = filled(12, 6, 0, size);
+        const sketch given = filled(12, six, 0, size);
         const image_bytes image = given.serialize();
         read_where_nothing_can_be_written(given, [&](const sketch &one) {
-            CHECK(one.serialize() == image && one.serialize(4).size() >= 8 && one == given && !one.is_empty());
+            CHECK(one.serialize() == image && one.serialize(four).size() >= 8 && one == given && !one.is_empty());
             CHECK(one.estimate() == given.estimate() && one.upper_bound(1) >= one.lower_bound(1));
-            CHECK(one.to_string() == given.to_string() && one.lg_k() == 12 && one.width() == 6);
+            CHECK(one.to_string() == given.to_string() && one.lg_k() == 12 && one.width() == six);
             union_ all(12);
             all.update(one);
-            CHECK(all.result(6) == given && sketch(one) == given);
+            CHECK(all.result(six) == given && sketch(one) == given);
         });
         union_ all(12);
         all.update(given);
         read_where_nothing_can_be_written(all, [&](const union_ &one) {
-            CHECK(one.result(6) == given && one.estimate() == given.estimate() && one.lg_max_k() == 12 &&
+            CHECK(one.result(six) == given && one.estimate() == given.estimate() && one.lg_max_k() == 12 &&
                   !one.is_empty());
         });
     }
@@ -237,7 +246,7 @@ static void test_const_members()
 
 static void test_threads()
 {
-    const sketch given = filled(12, 6, 0, 300);
+    const sketch given = filled(12, six, 0, 300);
     const image_bytes image = sketch(given).serialize();
     const double estimate = sketch(given).estimate();
     size_t right[4] = {};

@@ -10,6 +10,8 @@
 
 using image_bytes = std::vector<uint8_t>;
 
+static const hll::width widths[] = {hll::width::hll_4, hll::width::hll_6, hll::width::hll_8};
+
 static size_t passed, failed;
 
 #define CHECK(what) test_check((what), __FILE__, __LINE__, #what)

@@ -2,6 +2,7 @@
 // What values are hashed as, arguments that are refused, equality and text, and objects that were moved from.
 #include "test.hpp"
 
+#include <algorithm>
 #include <array>
 #include <limits>
 #include <sstream>
@@ -101,17 +102,133 @@ static void test_all_many()
     CHECK(arrays == plain_values);
 }
 
+// Texts by pointers, and lists in braces.
+static void test_lists()
+{
+    sketch one(12), other(12);
+    one.update_many({1, 2, 3});
+    one.update_many({"ann", "bob"});
+    one.update_many(std::vector<const char *>{"ann", ""});
+    for (int i = 1; i < 4; i++)
+        other.update(i);
+    for (const char *text : {"ann", "bob", ""})
+        other.update(text);
+    CHECK(one == other);
+    CHECK(throws<std::invalid_argument>([&] { one.update_many({"eve", static_cast<const char *>(nullptr)}); }, "null pointer"));
+    CHECK(one == other);
+}
+
+// Images in strings, after room for a header, and of another width.
+static void test_images()
+{
+    for (const int n : {0, 5, 100, 5000})
+        for (const hll::width width : widths) {
+            sketch one(12, width);
+            for (int i = 0; i < n; i++)
+                one.update(i);
+            const image_bytes image = one.serialize(), after = one.serialize_after(5);
+            CHECK(after.size() == image.size() + 5 && std::equal(image.begin(), image.end(), after.begin() + 5));
+            CHECK(std::count(after.begin(), after.begin() + 5, 0) == 5 && one.serialize_after(0) == image);
+            CHECK(sketch::deserialize(std::string(image.begin(), image.end())) == one);
+            CHECK(sketch::deserialize(std::vector<char>(image.begin(), image.end())) == one);
+            CHECK(one.serialized_size() == image.size() && image.size() <= sketch::max_serialized_size(12, width));
+            for (const hll::width other : widths) {
+                const sketch converted(one, other);
+                CHECK(converted.width() == other && converted.serialize() == one.serialize(other));
+                CHECK(one.serialize_after(3, other).size() == one.serialized_size(other) + 3);
+            }
+        }
+    CHECK(throws<std::invalid_argument>([] { sketch::max_serialized_size(22, hll::width::hll_8); }, "4 to 21"));
+}
+
+// The updatable form of an image, which other programs write: all buckets, and the coupons in the first of them.
+static image_bytes updatable(image_bytes image)
+{
+    const uint8_t stage = hll_image_stage(image.data(), image.size());
+    if (stage == HLL_REGISTERS || (image[5] & 4) != 0)
+        return image;
+    image[5] = static_cast<uint8_t>(image[5] & ~8);
+    image.resize(stage == HLL_LIST ? 40 : 12 + (size_t(4) << image[4]));
+    return image;
+}
+
+// Several sketches one after another in a stream, compact and updatable, are read one by one.
+static void test_streams()
+{
+    std::stringstream stream;
+    std::vector<sketch> written;
+    for (const int n : {0, 1, 7, 8, 100, 384, 385, 20000})
+        for (const hll::width width : widths)
+            for (const bool is_compact : {true, false}) {
+                sketch one(12, width);
+                for (int i = 0; i < n; i++)
+                    one.update(i);
+                const image_bytes image = is_compact ? one.serialize() : updatable(one.serialize());
+                CHECK(hll_image_header_size(image.data(), image.size()) == image.size());
+                stream.write(reinterpret_cast<const char *>(image.data()), static_cast<std::streamsize>(image.size()));
+                written.push_back(one);
+            }
+    for (const sketch &one : written)
+        CHECK(sketch::deserialize(stream) == one);
+    CHECK(stream.peek() == std::char_traits<char>::eof());
+    CHECK(throws<hll::image_error>([&] { sketch::deserialize(stream); }, "these 0 bytes"));
+}
+
+// A stream that ends inside an image, and streams that take nothing.
+static void test_broken_streams()
+{
+    for (const int n : {0, 3, 100, 5000}) {
+        sketch one(12);
+        for (int i = 0; i < n; i++)
+            one.update(i);
+        const image_bytes image = one.serialize();
+        for (size_t size = 0; size < image.size(); size += 1 + size / 50) {
+            std::istringstream cut(std::string(image.begin(), image.begin() + static_cast<std::ptrdiff_t>(size)));
+            try {
+                sketch::deserialize(cut);
+                CHECK(false);
+            } catch (const hll::image_error &error) {
+                CHECK(error.status() == HLL_TRUNCATED);
+            }
+        }
+        std::ostringstream closed;
+        closed.setstate(std::ios_base::badbit);
+        CHECK(throws<std::ios_base::failure>([&] { one.serialize(closed); }, "did not take"));
+    }
+    std::istringstream none(std::string(100, 'x'));
+    CHECK(throws<hll::image_error>([&] { sketch::deserialize(none); }, "family"));
+    std::string huge("\2\1\7\14\3\10\377\0", 8); // a list that announces 255 coupons
+    std::istringstream short_of_it(huge);
+    CHECK(throws<hll::image_error>([&] { sketch::deserialize(short_of_it); }, "truncated"));
+}
+
+// What isn't used can be freed.
+static void test_memory()
+{
+    sketch one(12);
+    CHECK(one.memory_size() == 0);
+    one.shrink_to_fit();
+    for (int i = 0; i < 300; i++)
+        one.update(i);
+    const image_bytes image = one.serialize();
+    const size_t before = one.memory_size();
+    one.shrink_to_fit();
+    CHECK(one.memory_size() == 40 + 4 * 300 && one.memory_size() <= before && one.serialize() == image);
+    for (int i = 0; i < 5000; i++)
+        one.update(i);
+    one.shrink_to_fit();
+    CHECK(one.memory_size() == 40 + 4096);
+}
+
 static void test_arguments()
 {
     for (unsigned lg_k : {0u, 3u, 22u, 268u, ~0u}) {
         CHECK(throws<std::invalid_argument>([=] { sketch none(lg_k); }, "4 to 21"));
         CHECK(throws<std::invalid_argument>([=] { union_ none(lg_k); }, std::to_string(lg_k).c_str()));
     }
-    for (unsigned width : {0u, 5u, 7u, 264u}) {
-        CHECK(throws<std::invalid_argument>([=] { sketch none(12, width); }, "4, 6 or 8"));
-        CHECK(throws<std::invalid_argument>([=] { sketch().serialize(width); }, "4, 6 or 8"));
-        CHECK(throws<std::invalid_argument>([=] { union_().result(width); }, "4, 6 or 8"));
-    }
+    for (unsigned bits : {0u, 5u, 7u, 264u})
+        CHECK(throws<std::invalid_argument>([=] { hll::width_of(bits); }, "4, 6 or 8"));
+    CHECK(hll::width_of(4) == hll::width::hll_4 && hll::bits_of(hll::width::hll_6) == 6);
     sketch one(12);
     one.update(1);
     const sketch before = one;
@@ -141,23 +258,25 @@ static void test_arguments()
 static void test_empty()
 {
     for (unsigned lg_k = 4; lg_k <= 21; lg_k++)
-        for (unsigned width : {4u, 6u, 8u}) {
+        for (const hll::width width : widths) {
+            const image_bytes image = plain_new(lg_k, hll::bits_of(width));
             sketch none(lg_k, width);
             CHECK(none.is_empty() && none.lg_k() == lg_k && none.width() == width && none.estimate() == 0);
-            CHECK(none.serialize() == plain_new(lg_k, width) && sketch::deserialize(none.serialize()) == none);
-            CHECK(same_estimation(none.estimation(), plain_estimation(plain_new(lg_k, width))));
+            CHECK(none.serialize() == image && sketch::deserialize(none.serialize()) == none);
+            CHECK(same_estimation(none.estimation(), plain_estimation(image)));
             none.update(1);
             CHECK(!none.is_empty());
             none.reset();
             CHECK(none.is_empty() && none == sketch(lg_k, width));
         }
-    CHECK(sketch().lg_k() == 12 && sketch().width() == 8 && union_().lg_max_k() == 0 && union_(13).lg_max_k() == 13);
-    CHECK(union_(13).is_empty() && union_(13).lg_k() == 13 && union_(13).result(6) == sketch(13, 6));
+    CHECK(sketch().lg_k() == 12 && sketch().width() == hll::width::hll_8 && union_().lg_max_k() == 0 && union_(13).lg_max_k() == 13);
+    CHECK(union_(13).is_empty() && union_(13).lg_k() == 13);
+    CHECK(union_(13).result(hll::width::hll_6) == sketch(13, hll::width::hll_6));
 }
 
 static void test_equality()
 {
-    sketch a(12), b(12), six(12, 6), other(11);
+    sketch a(12), b(12), six(12, hll::width::hll_6), other(11);
     for (int i = 0; i < 100; i++) {
         a.update(i);
         b.update(99 - i);
@@ -165,13 +284,13 @@ static void test_equality()
         other.update(i);
     }
     CHECK(a == b && !(a != b) && a != six && a != other && sketch(12) != sketch(11));
-    CHECK(a.serialize(6) == six.serialize() && a.estimate() == six.estimate());
+    CHECK(a.serialize(hll::width::hll_6) == six.serialize() && a.estimate() == six.estimate());
     b.update(100);
     CHECK(a != b);
     swap(a, b);
     CHECK(a.estimate() > b.estimate());
     swap(a, six);
-    CHECK(a.width() == 6 && six.width() == 8 && a.serialize(8) == b.serialize());
+    CHECK(a.width() == hll::width::hll_6 && six.width() == hll::width::hll_8 && a.serialize(hll::width::hll_8) == b.serialize());
     std::ostringstream text;
     text << b;
     CHECK(text.str() == b.to_string());
@@ -181,12 +300,13 @@ static void test_equality()
 
 static void test_moved_from()
 {
-    sketch one(9, 4);
+    const hll::width four = hll::width::hll_4;
+    sketch one(9, four);
     for (int i = 0; i < 1000; i++)
         one.update(i);
     const sketch before = one;
     sketch two = std::move(one);
-    CHECK(two == before && one == sketch(9, 4)); // NOLINT: that is what is tested
+    CHECK(two == before && one == sketch(9, four)); // NOLINT: that is what is tested
     one.update(5);
     CHECK(one.estimate() > 0.99 && two == before);
     one = std::move(two);
@@ -204,12 +324,12 @@ static void test_moved_from()
     union_ all;
     all.update(before);
     union_ moved = std::move(all);
-    CHECK(moved.result(4) == before && all.is_empty() && all.lg_k() == 12 && moved.lg_k() == 9); // NOLINT
+    CHECK(moved.result(four) == before && all.is_empty() && all.lg_k() == 12 && moved.lg_k() == 9); // NOLINT
     all.update(sketch(moved.result()));
-    CHECK(all.result(4) == before);
-    sketch result = all.result(4);
+    CHECK(all.result(four) == before);
+    sketch result = all.result(four);
     result.reset();
-    CHECK(result == sketch(9, 4)); // and not at the lg_k with which the union began
+    CHECK(result == sketch(9, four)); // and not at the lg_k with which the union began
     CHECK(std::is_nothrow_move_constructible<sketch>::value && std::is_nothrow_move_assignable<sketch>::value);
     CHECK(std::is_nothrow_move_constructible<union_>::value && std::is_nothrow_move_assignable<union_>::value);
 }
@@ -220,6 +340,11 @@ int main()
     test_reals();
     test_texts();
     test_all_many();
+    test_lists();
+    test_images();
+    test_streams();
+    test_broken_streams();
+    test_memory();
     test_arguments();
     test_empty();
     test_equality();

@@ -3,6 +3,7 @@
 #include "test.hpp"
 
 #include <random>
+#include <sstream>
 
 using hll::sketch;
 using hll::union_;
@@ -14,9 +15,9 @@ static unsigned below(unsigned n)
     return static_cast<unsigned>(randomness() % n);
 }
 
-static unsigned some_width()
+static hll::width some_width()
 {
-    return 4 + 2 * below(3);
+    return widths[below(3)];
 }
 
 // A sketch, and the image of the same values by plain calls.
@@ -24,12 +25,12 @@ struct pair {
     sketch made;
     image_bytes image;
 
-    pair(unsigned lg_k, unsigned width) : made(lg_k, width), image(plain_new(lg_k, width)) {}
+    pair(unsigned lg_k, hll::width width) : made(lg_k, width), image(plain_new(lg_k, hll::bits_of(width))) {}
 
     void expect_same() const
     {
         CHECK(made.serialize() == image);
-        CHECK(made.lg_k() == image[3] && made.width() == hll_image_width(image.data(), image.size()));
+        CHECK(made.lg_k() == image[3] && hll::bits_of(made.width()) == hll_image_width(image.data(), image.size()));
         const hll_estimation wanted = plain_estimation(image);
         CHECK(same_estimation(made.estimation(), wanted) && made.estimate() == wanted.estimate);
         const unsigned deviations = 1 + below(3);
@@ -95,9 +96,25 @@ static void add_coupons(pair &p)
 
 static void read_again(pair &p)
 {
-    const unsigned width = some_width();
-    p.made = sketch::deserialize(p.made.serialize(width));
-    p.image = plain_convert(p.image, width);
+    const hll::width width = some_width();
+    std::stringstream stream;
+    switch (below(4)) {
+    case 0:
+        p.made = sketch::deserialize(p.made.serialize(width));
+        break;
+    case 1:
+        p.made = sketch(p.made, width);
+        break;
+    case 2:
+        p.made.serialize(stream, width);
+        p.made = sketch::deserialize(stream);
+        break;
+    default:
+        p.made.shrink_to_fit();
+        p.made = sketch(std::move(p.made), width);
+    }
+    p.image = plain_convert(p.image, hll::bits_of(width));
+    CHECK(p.made.serialized_size() == p.image.size());
 }
 
 static void step(pair &p)
@@ -197,10 +214,10 @@ static void walk_union(unsigned lg_max_k)
             all.update(value);
             images.push_back(plain_add(plain_new(bound, 8), bytes, {8}));
         }
-        const unsigned width = some_width();
+        const hll::width width = some_width();
         if (!lg_max_k && !has_values)
             continue; // an empty union without a bound has no lg_k yet
-        const image_bytes wanted = plain_union(bound, width, images);
+        const image_bytes wanted = plain_union(bound, hll::bits_of(width), images);
         const sketch result = all.result(width);
         CHECK(result.serialize() == wanted && result.width() == width && all.lg_k() == wanted[3]);
         CHECK(same_estimation(all.estimation(), plain_estimation(wanted)) && all.lg_max_k() == lg_max_k);
@@ -252,7 +269,7 @@ static std::vector<image_bytes> honest_images()
 {
     std::vector<image_bytes> images;
     for (unsigned lg_k : {4u, 8u, 12u})
-        for (unsigned width : {4u, 6u, 8u}) {
+        for (const hll::width width : widths) {
             sketch one(lg_k, width);
             for (int n = 0; n < 1000; n++) {
                 one.update(n);
@@ -271,7 +288,7 @@ static void expect_as_plain(const image_bytes &bytes, size_t size, union_ &all)
     if (status == HLL_OK) {
         const image_bytes exact(bytes.begin(), bytes.begin() + static_cast<std::ptrdiff_t>(size));
         const sketch read = sketch::deserialize(exact);
-        CHECK(read.serialize() == plain_union(read.lg_k(), read.width(), {exact}));
+        CHECK(read.serialize() == plain_union(read.lg_k(), hll::bits_of(read.width()), {exact}));
         union_ one(12);
         one.update_image(exact);
         CHECK(one.result().serialize() == plain_union(12, 8, {exact}));
