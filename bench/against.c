@@ -278,14 +278,30 @@ struct call {
 };
 
 static const struct call of_registers[] = {
-    { "join", run_join }, { "hll_registers_merge", run_registers }, { "union", run_union }, { "add a held value", run_held },
-    { "add 100 held values", run_held_values }, { "add 100 held coupons", run_held_coupons }, { "add a value that changes a register", run_rise },
-    { "300 new values", run_new_values }, { "image, 8 bits", run_image_8 }, { "image, 6 bits", run_image_6 },
-    { "image, 4 bits", run_image_4 }, { "estimate", run_estimate }, { "estimate of an image", run_estimate_of_image }, { NULL, NULL },
+    {"join", run_join},
+    {"hll_registers_merge", run_registers},
+    {"union", run_union},
+    {"add a held value", run_held},
+    {"add 100 held values", run_held_values},
+    {"add 100 held coupons", run_held_coupons},
+    {"add a value that changes a register", run_rise},
+    {"300 new values", run_new_values},
+    {"image, 8 bits", run_image_8},
+    {"image, 6 bits", run_image_6},
+    {"image, 4 bits", run_image_4},
+    {"estimate", run_estimate},
+    {"estimate of an image", run_estimate_of_image},
+    {NULL, NULL},
 };
 static const struct call of_coupons[] = {
-    { "join", run_join }, { "join into a new state", run_new_join }, { "union", run_union }, { "merge", run_merge },
-    { "image, 8 bits", run_image_8 }, { "estimate", run_estimate }, { "estimate of an image", run_estimate_of_image }, { NULL, NULL },
+    {"join", run_join},
+    {"join into a new state", run_new_join},
+    {"union", run_union},
+    {"merge", run_merge},
+    {"image, 8 bits", run_image_8},
+    {"estimate", run_estimate},
+    {"estimate of an image", run_estimate_of_image},
+    {NULL, NULL},
 };
 
 static double now(void)

@@ -157,9 +157,9 @@ enum { HLL_LIST = 0, HLL_SET = 1, HLL_REGISTERS = 2 };
 
 /* The size of the largest image of this lg_k and width. With 8 and 6 bits every image of registers has this size. With 4 bits
  * only an image in which all registers but one are exceptions has this size. */
-#define HLL_IMAGE_ROOM(lg_k, width)                                                                                    \
-    ((width) == 8   ? HLL_CAST(size_t, 40) + (HLL_CAST(size_t, 1) << (lg_k))                                           \
-     : (width) == 6 ? HLL_CAST(size_t, 41) + (HLL_CAST(size_t, 3) << (lg_k)) / 4                                       \
+#define HLL_IMAGE_ROOM(lg_k, width)                                                                                        \
+    ((width) == 8   ? HLL_CAST(size_t, 40) + (HLL_CAST(size_t, 1) << (lg_k))                                               \
+     : (width) == 6 ? HLL_CAST(size_t, 41) + (HLL_CAST(size_t, 3) << (lg_k)) / 4                                           \
                     : HLL_CAST(size_t, 36) + (HLL_CAST(size_t, 9) << (lg_k)) / 2)
 
 /* A raw coupon, a coupon as 32 bits, is the coupon's value * 2^26 + its slot. */
@@ -411,8 +411,8 @@ hll_status hll_registers_image(const uint8_t *registers, size_t count, unsigned 
 
 /* Enough bytes for every state of this lg_k: 40, one for each register, and half of that number (64 if lg_k is below 7) for the
  * coupons that become registers. */
-#define HLL_STATE_MOST(lg_k)                                                                                           \
-    (HLL_STATE_NEW + (HLL_CAST(size_t, 1) << (lg_k)) +                                                                 \
+#define HLL_STATE_MOST(lg_k)                                                                                               \
+    (HLL_STATE_NEW + (HLL_CAST(size_t, 1) << (lg_k)) +                                                                     \
      ((lg_k) < 7 ? HLL_CAST(size_t, 64) : HLL_CAST(size_t, 1) << ((lg_k)-1)))
 
 /* Makes the state of an empty sketch.
@@ -578,7 +578,8 @@ static inline uint8_t hll_image_stage(const uint8_t *image, size_t len)
 /* Returns the 32-bit number in four bytes, the lowest byte first. */
 static inline uint32_t hll_number(const uint8_t *bytes)
 {
-    return bytes[0] | HLL_CAST(uint32_t, bytes[1]) << 8 | HLL_CAST(uint32_t, bytes[2]) << 16 | HLL_CAST(uint32_t, bytes[3]) << 24;
+    return bytes[0] | HLL_CAST(uint32_t, bytes[1]) << 8 | HLL_CAST(uint32_t, bytes[2]) << 16 |
+           HLL_CAST(uint32_t, bytes[3]) << 24;
 }
 
 /* Returns the size that the header of an image gives, without checking the rest: quick, and exact if the bytes are an image.

@@ -210,7 +210,8 @@ static void time_unions(size_t n, hll::width width)
     }
     for (const auto &image : images)
         parts.push_back({image.data(), image.size()});
-    const std::string name = "1,000 of " + std::to_string(n) + " values, " + std::to_string(hll::bits_of(width)) + " bits: ";
+    const std::string name = "1,000 of " + std::to_string(n) + " values, " + std::to_string(hll::bits_of(width)) +
+                             " bits: ";
     const auto plain = [&] {
         need(hll_images_unionv(12, 8, parts.data(), parts.size(), out.data(), out.size(), &size, &failed));
     };

@@ -78,8 +78,7 @@ class hll_sketch : public detail::values<hll::sketch> {
         : values(hll::sketch(lg_config_k, detail::width_of(type)))
     {
     }
-    hll_sketch(const hll_sketch &other, target_hll_type type)
-        : values(hll::sketch(other.counter_, detail::width_of(type)))
+    hll_sketch(const hll_sketch &other, target_hll_type type) : values(hll::sketch(other.counter_, detail::width_of(type)))
     {
     }
 

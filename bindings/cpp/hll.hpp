@@ -71,7 +71,10 @@ inline width width_of(unsigned bits)
 }
 
 /// Returns the number of bits of a width: 4, 6 or 8.
-constexpr unsigned bits_of(width given) { return static_cast<unsigned>(given); }
+constexpr unsigned bits_of(width given)
+{
+    return static_cast<unsigned>(given);
+}
 
 /// The bytes are not the image of a sketch.
 class image_error : public std::runtime_error {
@@ -176,10 +179,10 @@ inline void check_version()
 {
     static const bool is_same = hll_version() / 1000 == HLL_VERSION_NUMBER / 1000;
     if (!is_same)
-        throw std::logic_error("the program was compiled with the hll.h of version " +
-                               std::to_string(HLL_VERSION_MAJOR) + "." + std::to_string(HLL_VERSION_MINOR) +
-                               ", and runs with libhll " + std::to_string(hll_version() / 1000000) + "." +
-                               std::to_string(hll_version() / 1000 % 1000) + ": compile it again");
+        throw std::logic_error("the program was compiled with the hll.h of version " + std::to_string(HLL_VERSION_MAJOR) +
+                               "." + std::to_string(HLL_VERSION_MINOR) + ", and runs with libhll " +
+                               std::to_string(hll_version() / 1000000) + "." + std::to_string(hll_version() / 1000 % 1000) +
+                               ": compile it again");
 }
 
 /// Reads from a stream until there are `size` bytes, in blocks, so a wrong size takes no more memory than there are
@@ -548,10 +551,16 @@ class counter {
     void reset() noexcept { state_.clear(); }
 
     /// Returns the bytes that are allocated, in addition to the object itself.
-    size_t memory_size() const noexcept { return state_.room(); }
+    size_t memory_size() const noexcept
+    {
+        return state_.room();
+    }
 
     /// Frees the bytes that are allocated and not used.
-    void shrink_to_fit() { state_.shrink(); }
+    void shrink_to_fit()
+    {
+        state_.shrink();
+    }
 
   protected:
     explicit counter(state given) noexcept : state_(std::move(given)) {}
@@ -602,7 +611,8 @@ class sketch : public detail::counter {
     {
         const uint8_t *bytes = detail::checked_bytes(image, size);
         const unsigned lg_k = hll_image_lg_k(bytes, size), bits = hll_image_width(bytes, size);
-        sketch made(lg_k ? lg_k : detail::default_lg_k, width_of(bits ? bits : 8)); // if the header is wrong, join returns the reason
+        sketch made(lg_k ? lg_k : detail::default_lg_k,
+                    width_of(bits ? bits : 8)); // if the header is wrong, join returns the reason
         const hll_status status = made.state_.join(made.lg_k(), bytes, size);
         if (detail::is_refusal(status))
             throw image_error(status, size);
@@ -626,7 +636,7 @@ class sketch : public detail::counter {
     /// serialize(hll::width::hll_8), or serialize_after(8).
     template <class Number>
     typename std::enable_if<std::is_arithmetic<Number>::value, std::vector<uint8_t>>::type
-    serialize(Number) const = delete; // serialize(hll::width::hll_8) or serialize_after(8)?
+        serialize(Number) const = delete; // serialize(hll::width::hll_8) or serialize_after(8)?
 
     /// Returns the image after `room` bytes, which are 0, for a header of the caller's.
     std::vector<uint8_t> serialize_after(size_t room) const { return serialize_after(room, width_); }

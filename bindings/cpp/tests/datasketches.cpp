@@ -20,15 +20,42 @@
 #ifdef PLAIN
 using Sketch = hll::sketch;
 using Union = hll::union_;
-static Sketch new_sketch(uint8_t lg_k) { return Sketch(lg_k, hll::width::hll_4); }
-static std::vector<uint8_t> framed(const Sketch &sketch) { return sketch.serialize_after(8); }
-static void write_to(const Sketch &sketch, std::ostream &out) { sketch.serialize(out); }
-static double estimate_of(const Sketch &sketch) { return sketch.estimate(); }
-static Sketch result_of(const Union &all) { return all.result(hll::width::hll_4); }
-static Sketch wide(const Sketch &sketch) { return Sketch(sketch, hll::width::hll_8); }
-static size_t size_of(const Sketch &sketch) { return sketch.serialized_size(); }
-static double upper_of(const Sketch &sketch) { return sketch.upper_bound(2); }
-static void add_address(Sketch &sketch, uint32_t address) { sketch.update(static_cast<int32_t>(address)); }
+static Sketch new_sketch(uint8_t lg_k)
+{
+    return Sketch(lg_k, hll::width::hll_4);
+}
+static std::vector<uint8_t> framed(const Sketch &sketch)
+{
+    return sketch.serialize_after(8);
+}
+static void write_to(const Sketch &sketch, std::ostream &out)
+{
+    sketch.serialize(out);
+}
+static double estimate_of(const Sketch &sketch)
+{
+    return sketch.estimate();
+}
+static Sketch result_of(const Union &all)
+{
+    return all.result(hll::width::hll_4);
+}
+static Sketch wide(const Sketch &sketch)
+{
+    return Sketch(sketch, hll::width::hll_8);
+}
+static size_t size_of(const Sketch &sketch)
+{
+    return sketch.serialized_size();
+}
+static double upper_of(const Sketch &sketch)
+{
+    return sketch.upper_bound(2);
+}
+static void add_address(Sketch &sketch, uint32_t address)
+{
+    sketch.update(static_cast<int32_t>(address));
+}
 static void add_text(Sketch &sketch, const std::string &text)
 {
     if (!text.empty())
@@ -37,8 +64,14 @@ static void add_text(Sketch &sketch, const std::string &text)
 #else
 using Sketch = datasketches::hll_sketch;
 using Union = datasketches::hll_union;
-static Sketch new_sketch(uint8_t lg_k) { return Sketch(lg_k); }
-static std::vector<uint8_t> framed(const Sketch &sketch) { return sketch.serialize_compact(8); }
+static Sketch new_sketch(uint8_t lg_k)
+{
+    return Sketch(lg_k);
+}
+static std::vector<uint8_t> framed(const Sketch &sketch)
+{
+    return sketch.serialize_compact(8);
+}
 static void write_to(const Sketch &sketch, std::ostream &out)
 {
     static bool is_updatable;
@@ -48,13 +81,34 @@ static void write_to(const Sketch &sketch, std::ostream &out)
     else
         sketch.serialize_compact(out);
 }
-static double estimate_of(const Sketch &sketch) { return sketch.get_estimate(); }
-static Sketch result_of(const Union &all) { return all.get_result(); }
-static Sketch wide(const Sketch &sketch) { return Sketch(sketch, datasketches::HLL_8); }
-static size_t size_of(const Sketch &sketch) { return sketch.get_compact_serialization_bytes(); }
-static double upper_of(const Sketch &sketch) { return sketch.get_upper_bound(2); }
-static void add_address(Sketch &sketch, uint32_t address) { sketch.update(address); }
-static void add_text(Sketch &sketch, const std::string &text) { sketch.update(text); }
+static double estimate_of(const Sketch &sketch)
+{
+    return sketch.get_estimate();
+}
+static Sketch result_of(const Union &all)
+{
+    return all.get_result();
+}
+static Sketch wide(const Sketch &sketch)
+{
+    return Sketch(sketch, datasketches::HLL_8);
+}
+static size_t size_of(const Sketch &sketch)
+{
+    return sketch.get_compact_serialization_bytes();
+}
+static double upper_of(const Sketch &sketch)
+{
+    return sketch.get_upper_bound(2);
+}
+static void add_address(Sketch &sketch, uint32_t address)
+{
+    sketch.update(address);
+}
+static void add_text(Sketch &sketch, const std::string &text)
+{
+    sketch.update(text);
+}
 #endif
 
 // The three sketches of a key.
@@ -78,7 +132,8 @@ static void fill(Shard &shard, unsigned from, unsigned to)
 
 static void print(const std::string &name, const Sketch &sketch)
 {
-    std::printf("%s: %.3f, at most %.3f, %zu bytes\n", name.c_str(), estimate_of(sketch), upper_of(sketch), size_of(sketch));
+    std::printf("%s: %.3f, at most %.3f, %zu bytes\n", name.c_str(), estimate_of(sketch), upper_of(sketch),
+                size_of(sketch));
 }
 
 int main()

@@ -123,7 +123,8 @@ static void test_changes(int size)
     }
     refuse_each(begin, [&] { one.update_coupons(coupons.data(), coupons.size()); }, is_unchanged);
     CHECK(one.estimate() > 1900);
-    CHECK(refuse_each(begin, [&] { one = filled(9, eight, 0, 5); }, is_unchanged) >= 1);
+    CHECK(refuse_each(
+              begin, [&] { one = filled(9, eight, 0, 5); }, is_unchanged) >= 1);
 }
 
 // More values than one call adds, into a sketch that would grow several times meanwhile.
@@ -149,12 +150,15 @@ static void test_reads(int size)
     CHECK(refuse_each(begin, [&] { one.estimate(); }, is_unchanged) == 1);
     CHECK(refuse_each(begin, [&] { one.serialize(); }, is_unchanged) >= 2);
     CHECK(refuse_each(begin, [&] { one.to_string(); }, is_unchanged) >= 1);
-    CHECK(refuse_each(begin, [&] { one.serialized_size(); }, is_unchanged) >= 1);
-    CHECK(refuse_each(begin, [&] { sketch other(one, six); }, is_unchanged) == (size == 0 ? 0 : 1));
+    CHECK(refuse_each(
+              begin, [&] { one.serialized_size(); }, is_unchanged) >= 1);
+    CHECK(refuse_each(
+              begin, [&] { sketch other(one, six); }, is_unchanged) == (size == 0 ? 0 : 1));
     sketch smaller = one;
     smaller.update(-5);
     const image_bytes larger = smaller.serialize();
-    CHECK(refuse_each(begin, [&] { smaller.shrink_to_fit(); }, [&] { return smaller.serialize() == larger; }) == 1);
+    CHECK(refuse_each(
+              begin, [&] { smaller.shrink_to_fit(); }, [&] { return smaller.serialize() == larger; }) == 1);
     CHECK(smaller.serialize() == larger && smaller.memory_size() <= (size == 5000 ? 4136 : 40 + 4 * (size_t(size) + 1)));
     CHECK(refuse_each(begin, [&] { sketch::deserialize(before); }, is_unchanged) >= 1);
 }

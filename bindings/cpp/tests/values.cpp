@@ -114,7 +114,11 @@ static void test_lists()
     for (const char *text : {"ann", "bob", ""})
         other.update(text);
     CHECK(one == other);
-    CHECK(throws<std::invalid_argument>([&] { one.update_many({"eve", static_cast<const char *>(nullptr)}); }, "null pointer"));
+    CHECK(throws<std::invalid_argument>(
+        [&] {
+            one.update_many({"eve", static_cast<const char *>(nullptr)});
+        },
+        "null pointer"));
     CHECK(one == other);
 }
 
@@ -269,7 +273,8 @@ static void test_empty()
             none.reset();
             CHECK(none.is_empty() && none == sketch(lg_k, width));
         }
-    CHECK(sketch().lg_k() == 12 && sketch().width() == hll::width::hll_8 && union_().lg_max_k() == 0 && union_(13).lg_max_k() == 13);
+    CHECK(sketch().lg_k() == 12 && sketch().width() == hll::width::hll_8 && union_().lg_max_k() == 0 &&
+          union_(13).lg_max_k() == 13);
     CHECK(union_(13).is_empty() && union_(13).lg_k() == 13);
     CHECK(union_(13).result(hll::width::hll_6) == sketch(13, hll::width::hll_6));
 }
@@ -290,7 +295,8 @@ static void test_equality()
     swap(a, b);
     CHECK(a.estimate() > b.estimate());
     swap(a, six);
-    CHECK(a.width() == hll::width::hll_6 && six.width() == hll::width::hll_8 && a.serialize(hll::width::hll_8) == b.serialize());
+    CHECK(a.width() == hll::width::hll_6 && six.width() == hll::width::hll_8 &&
+          a.serialize(hll::width::hll_8) == b.serialize());
     std::ostringstream text;
     text << b;
     CHECK(text.str() == b.to_string());
