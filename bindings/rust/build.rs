@@ -1,8 +1,12 @@
 // SPDX-License-Identifier: Apache-2.0
 //! Builds libhll.a as bindings/c/Makefile does, from assembler text and C, or finds an installed libhll by pkg-config.
 //!
-//! Environment: HLL_SYSTEM=1 takes the installed library, as the feature `system` does. CC, LD, OBJCOPY, AR and
-//! PKG_CONFIG name the tools; when another processor is built for, their defaults are those of its cross compiler.
+//! Environment: HLL_SYSTEM=1 takes the installed library, as the feature `system` does. CC, LD, OBJCOPY, AR and CFLAGS are read
+//! as the crate `cc` reads them: first with the target in the name (CC_aarch64_unknown_linux_gnu), then TARGET_CC or HOST_CC,
+//! then CC. When another processor is built for, the plain names are not read, and the defaults are the tools of its cross
+//! compiler. PKG_CONFIG names pkg-config.
+//!
+//! Where there is no text for a system, the crate is built without a library, and its calls panic with a message.
 
 use std::env;
 use std::error::Error;
@@ -15,7 +19,7 @@ type Outcome<T = ()> = Result<T, Box<dyn Error>>;
 const SOURCES: [&str; 4] = ["estimate", "optional", "state", "heap"];
 
 fn main() {
-    for name in ["HLL_SYSTEM", "CC", "LD", "OBJCOPY", "AR", "PKG_CONFIG", "PKG_CONFIG_PATH", "PKG_CONFIG_LIBDIR"] {
+    for name in ["HLL_SYSTEM", "PKG_CONFIG", "PKG_CONFIG_PATH", "PKG_CONFIG_LIBDIR"] {
         println!("cargo:rerun-if-env-changed={name}");
     }
     let wants_system = env::var_os("CARGO_FEATURE_SYSTEM").is_some() || env::var("HLL_SYSTEM").as_deref() == Ok("1");
@@ -57,6 +61,14 @@ fn pkg_config(question: &str) -> Outcome<String> {
 // ---- a library of its own
 
 fn build_static() -> Outcome {
+    if !has_text()? {
+        println!("cargo:rustc-cfg=hll_missing");
+        println!(
+            "cargo:warning=there is no libhll for this system, only for Linux on x86_64 and aarch64: calls will panic"
+        );
+        return Ok(());
+    }
+    println!("cargo:rustc-cfg=hll_versioned");
     let out = PathBuf::from(env::var_os("OUT_DIR").ok_or("OUT_DIR is not set")?);
     let text = folder("prebuilt", "../../prebuilt")?.join(processor()?).join("libhll_c.s");
     let c = folder("c", "../c")?;
@@ -84,25 +96,42 @@ fn folder(packaged: &str, checkout: &str) -> Outcome<PathBuf> {
 }
 
 fn processor() -> Outcome<String> {
-    let (system, processor) = (env::var("CARGO_CFG_TARGET_OS")?, env::var("CARGO_CFG_TARGET_ARCH")?);
-    match (system.as_str(), processor.as_str()) {
-        ("linux", "x86_64" | "aarch64") => Ok(processor),
-        _ => {
-            Err(format!("there is no text of libhll for {system} on {processor}, only for Linux on x86_64 and aarch64")
-                .into())
-        }
+    Ok(env::var("CARGO_CFG_TARGET_ARCH")?)
+}
+
+/// Whether prebuilt/ has the text of the proved library for the target.
+fn has_text() -> Outcome<bool> {
+    let is_linux = env::var("CARGO_CFG_TARGET_OS")? == "linux";
+    Ok(is_linux && matches!(processor()?.as_str(), "x86_64" | "aarch64"))
+}
+
+fn is_cross() -> Outcome<bool> {
+    Ok(env::var("HOST")?.split('-').next() != env::var("TARGET")?.split('-').next())
+}
+
+/// What the environment says of a tool or of flags for the target.
+fn from_environment(variable: &str) -> Outcome<Option<String>> {
+    let (target, is_native) = (env::var("TARGET")?, !is_cross()?);
+    let kind = if is_native { "HOST" } else { "TARGET" };
+    let mut names = vec![format!("{variable}_{target}"), format!("{variable}_{}", target.replace('-', "_"))];
+    names.push(format!("{kind}_{variable}"));
+    if is_native {
+        names.push(variable.to_string());
     }
+    for name in &names {
+        println!("cargo:rerun-if-env-changed={name}");
+    }
+    Ok(names.iter().find_map(|name| env::var(name).ok()))
 }
 
 /// A command with the tool that the environment names, or else its default.
 fn tool(variable: &str, default: &str) -> Outcome<Command> {
-    let is_cross = env::var("HOST")?.split('-').next() != env::var("TARGET")?.split('-').next();
-    let default = match (is_cross, default) {
+    let default = match (is_cross()?, default) {
         (false, _) => default.to_string(),
         (true, "cc") => format!("{}-linux-gnu-gcc", processor()?),
         (true, _) => format!("{}-linux-gnu-{default}", processor()?),
     };
-    let line = env::var(variable).unwrap_or(default);
+    let line = from_environment(variable)?.unwrap_or(default);
     let mut words = line.split_whitespace();
     let mut command = Command::new(words.next().ok_or_else(|| format!("{variable} is empty"))?);
     command.args(words);
@@ -119,7 +148,8 @@ fn run(command: &mut Command) -> Outcome {
 
 fn compile(source: &Path, object: &Path) -> Outcome<PathBuf> {
     let flags = ["-O2", "-std=c99", "-fPIC", "-Wall", "-c", "-o"];
-    run(tool("CC", "cc")?.args(flags).arg(object).arg(source))?;
+    let more = from_environment("CFLAGS")?.unwrap_or_default();
+    run(tool("CC", "cc")?.args(more.split_whitespace()).args(flags).arg(object).arg(source))?;
     Ok(object.to_path_buf())
 }
 
@@ -134,18 +164,23 @@ fn rename_wrapped_calls(object: &Path, c: &Path) -> Outcome {
     run(command.arg(object))
 }
 
-/// Makes one object, in which all names but the calls of hll.map are local.
+/// Makes one object, in which all names but the calls of hll.map are local. The calls get MINOR into their names, as
+/// src/libhll.rs has them.
 fn join(objects: &[PathBuf], c: &Path, out: &Path) -> Outcome<PathBuf> {
     let (joined, calls) = (out.join("hll.o"), out.join("calls"));
     let map = fs::read_to_string(c.join("hll.map"))?;
     let names = map.lines().filter_map(|line| line.trim().strip_suffix(';')).filter(|name| name.starts_with("hll_"));
-    fs::write(&calls, names.collect::<Vec<_>>().join("\n"))?;
+    let names: Vec<_> = names.collect();
+    fs::write(&calls, names.join("\n"))?;
     let mut link = tool("LD", "ld")?;
     if processor()? == "x86_64" {
         link.args(["-z", "x86-64-v2"]); // the loader refuses the program on older processors, which lack instructions
     }
     run(link.arg("-r").arg("-o").arg(&joined).args(objects))?;
     run(tool("OBJCOPY", "objcopy")?.arg(format!("--keep-global-symbols={}", calls.display())).arg(&joined))?;
+    let (major, minor) = (env!("CARGO_PKG_VERSION_MAJOR"), env!("CARGO_PKG_VERSION_MINOR"));
+    let renamed = names.iter().map(|name| format!("--redefine-sym={name}=hll_{major}_{minor}_{}", &name[4..]));
+    run(tool("OBJCOPY", "objcopy")?.args(renamed).arg(&joined))?;
     Ok(joined)
 }
 

@@ -5,6 +5,8 @@
 //! the crate's name in `Cargo.toml` and in `use`. The README says what differs.
 
 #![deny(unsafe_code)]
+// build.rs sets hll_missing and hll_versioned; older compilers don't know the second lint
+#![allow(unknown_lints, unexpected_cfgs)]
 #![warn(missing_docs)]
 
 pub mod common;

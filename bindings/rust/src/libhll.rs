@@ -32,9 +32,32 @@ struct Bytes {
     len: usize,
 }
 
-extern "C" {
-    fn hll_image_check(image: *const u8, len: usize) -> Status;
-    fn hll_images_unionv(
+/// Declares the calls. A library that build.rs has made has MINOR in its names. Where there is none for a system, each call
+/// says so.
+macro_rules! calls {
+    ($($versioned:literal fn $name:ident($($argument:ident: $type:ty),*) -> $result:ty;)*) => {
+        #[cfg(not(hll_missing))]
+        extern "C" {
+            $(#[cfg_attr(hll_versioned, link_name = $versioned)]
+            fn $name($($argument: $type),*) -> $result;)*
+        }
+
+        $(#[cfg(hll_missing)]
+        #[allow(clippy::too_many_arguments)]
+        unsafe fn $name($(_: $type),*) -> $result {
+            panic!(
+                "hll-sketches has no library for {} on {}, only for Linux on x86_64 and aarch64: install libhll there, and set \
+                 HLL_SYSTEM=1 when the crate is built",
+                std::env::consts::OS,
+                std::env::consts::ARCH
+            )
+        })*
+    };
+}
+
+calls! {
+    "hll_0_2_image_check" fn hll_image_check(image: *const u8, len: usize) -> Status;
+    "hll_0_2_images_unionv" fn hll_images_unionv(
         lg_max_k: c_uint,
         width: c_uint,
         parts: *const Bytes,
@@ -42,43 +65,43 @@ extern "C" {
         out: *mut u8,
         room: usize,
         size: *mut usize,
-        failed: *mut usize,
+        failed: *mut usize
     ) -> Status;
-    fn hll_hip_estimate(image: *const u8, len: usize, found: *mut Estimation) -> Status;
-    fn hll_coupon(value: *const u8, len: usize) -> u32;
-    fn hll_state_new(lg_k: c_uint, state: *mut c_void, room: usize) -> Status;
-    fn hll_state_add_coupons(
+    "hll_0_2_hip_estimate" fn hll_hip_estimate(image: *const u8, len: usize, found: *mut Estimation) -> Status;
+    "hll_0_2_coupon" fn hll_coupon(value: *const u8, len: usize) -> u32;
+    "hll_0_2_state_new" fn hll_state_new(lg_k: c_uint, state: *mut c_void, room: usize) -> Status;
+    "hll_0_2_state_add_coupons" fn hll_state_add_coupons(
         state: *mut c_void,
         room: usize,
         size: *mut usize,
         coupons: *const u32,
-        n: usize,
+        n: usize
     ) -> Status;
-    fn hll_state_join(
+    "hll_0_2_state_join" fn hll_state_join(
         lg_max_k: c_uint,
         state: *mut c_void,
         room: usize,
         size: *mut usize,
         image: *const u8,
-        len: usize,
+        len: usize
     ) -> Status;
-    fn hll_state_join_state(
+    "hll_0_2_state_join_state" fn hll_state_join_state(
         lg_max_k: c_uint,
         state: *mut c_void,
         room: usize,
         size: *mut usize,
         other: *mut c_void,
-        other_room: usize,
+        other_room: usize
     ) -> Status;
-    fn hll_state_image(
+    "hll_0_2_state_image" fn hll_state_image(
         state: *mut c_void,
         room: usize,
         width: c_uint,
         out: *mut u8,
         out_room: usize,
-        size: *mut usize,
+        size: *mut usize
     ) -> Status;
-    fn hll_state_estimate(state: *mut c_void, room: usize, found: *mut Estimation) -> Status;
+    "hll_0_2_state_estimate" fn hll_state_estimate(state: *mut c_void, room: usize, found: *mut Estimation) -> Status;
 }
 
 pub(crate) fn checked(status: Status) -> Result<(), Status> {

@@ -2,7 +2,7 @@
 //! What values, arguments, images and errors mean.
 use hll_sketches::common::NumStdDev;
 use hll_sketches::error::{Error, ErrorKind};
-use hll_sketches::hash::value::raw_bytes;
+use hll_sketches::hash::value::{canonical_float, natural_extend, raw_bytes, sign_extend};
 use hll_sketches::hll::{check, hip_estimate, merge_images, union_of, Coupon, HllSketch, HllType, HllUnion, Limits};
 
 fn hex(bytes: &[u8]) -> String {
@@ -45,7 +45,7 @@ fn a_str_is_hashed_with_a_byte_ff() {
 
 #[test]
 fn long_values_are_hashed_whole() {
-    for len in [0, 1, 38, 39, 40, 41, 79, 80, 1000] {
+    for len in [0, 1, 38, 39, 40, 41, 79, 80, 131, 132, 255, 256, 263, 264, 265, 1000] {
         let text = "a".repeat(len);
         let bytes = [text.as_bytes(), &[0xff]].concat();
         assert_eq!(Coupon::from_value(&text), Coupon::from_bytes(&bytes), "{len}");
@@ -65,6 +65,46 @@ fn integers_of_64_bits_are_hashed_as_their_bytes() {
     assert_eq!(sketch.estimate().round(), 1.0);
     sketch.update(-7i32);
     assert_eq!(sketch.estimate().round(), 2.0);
+}
+
+#[test]
+fn floats_are_counted_as_other_languages_count_them() {
+    let of = |value: f64| Coupon::from_value(canonical_float::from_f64(value)).raw();
+    // (these three are those of C++, Python and SQL)
+    assert_eq!((of(0.0), of(-0.0), of(f64::NAN)), (0x04c2_d7cb, 0x04c2_d7cb, 0x18bd_31eb));
+    for odd in [-f64::NAN, f64::from_bits(0x7ff0_0000_0000_0001), f64::from_bits(u64::MAX)] {
+        assert_eq!(of(odd), of(f64::NAN));
+    }
+    for value in [1.5, -2.5, f64::INFINITY, f64::NEG_INFINITY, f64::MIN_POSITIVE, 5e-324] {
+        assert_eq!(of(value), Coupon::from_bytes(value.to_le_bytes()).raw());
+    }
+    assert_eq!(Coupon::from_value(canonical_float::from_f32(0.1)).raw(), of(f64::from(0.1f32)));
+    assert_eq!(Coupon::from_value(canonical_float::from_f32(-f32::NAN)).raw(), of(f64::NAN));
+}
+
+#[test]
+fn integers_of_fewer_bits_are_extended() {
+    let of = |value: i64| Coupon::from_bytes(value.to_le_bytes());
+    for value in [0, 1, -1, 100, -128, 127] {
+        let wide = i64::from(value);
+        for coupon in [
+            Coupon::from_value(natural_extend::from_i8(value)),
+            Coupon::from_value(natural_extend::from_i16(value.into())),
+            Coupon::from_value(natural_extend::from_i32(value.into())),
+            Coupon::from_value(sign_extend::from_i8(value)),
+            Coupon::from_value(sign_extend::from_i16(value.into())),
+            Coupon::from_value(sign_extend::from_i32(value.into())),
+        ] {
+            assert_eq!(coupon, of(wide));
+        }
+    }
+    assert_eq!(Coupon::from_value(natural_extend::from_u8(255)), of(255));
+    assert_eq!(Coupon::from_value(natural_extend::from_u16(65535)), of(65535));
+    assert_eq!(Coupon::from_value(natural_extend::from_u32(u32::MAX)), of(4_294_967_295));
+    assert_eq!(Coupon::from_value(sign_extend::from_u8(255)), of(-1));
+    assert_eq!(Coupon::from_value(sign_extend::from_u16(65535)), of(-1));
+    assert_eq!(Coupon::from_value(sign_extend::from_u32(u32::MAX)), of(-1));
+    assert_eq!(Coupon::from_value(sign_extend::from_u32(7)), of(7));
 }
 
 #[test]

@@ -67,8 +67,9 @@ impl HllSketch {
         self.try_update_with_coupon(Coupon::try_from_value(value)?)
     }
 
-    /// Adds a value by these bytes alone, as C, C++, Java, Python and SQL count it: the UTF-8 of a text, the eight
-    /// little-endian bytes of an integer or of a `f64`.
+    /// Adds a value by these bytes alone, as C, C++, Java, Python and SQL count it: the UTF-8 of a text, or the eight
+    /// little-endian bytes of an integer. For a float, call [`update`](Self::update) with
+    /// [`canonical_float`](crate::hash::value::canonical_float): the others count -0.0 as 0.0, and every NaN as one value.
     ///
     /// ```
     /// use hll_sketches::hll::{HllSketch, HllType};
