@@ -1,3 +1,7 @@
 module distinct
 
 go 1.19
+
+require hll v0.2.0
+
+replace hll v0.2.0 => ./hll

@@ -1,0 +1,3 @@
+module hll
+
+go 1.19

@@ -1,0 +1,212 @@
+// SPDX-License-Identifier: Apache-2.0
+
+package hll
+
+import (
+	"bytes"
+	"encoding/gob"
+	"encoding/hex"
+	"errors"
+	"fmt"
+	"math"
+	"sync"
+	"testing"
+)
+
+func must[T any](t *testing.T) func(T, error) T {
+	return func(value T, err error) T {
+		t.Helper()
+		if err != nil {
+			t.Fatal(err)
+		}
+		return value
+	}
+}
+
+func filled(t *testing.T, lgK, from, to int) *Sketch {
+	t.Helper()
+	s := must[*Sketch](t)(New(lgK))
+	for i := from; i < to; i++ {
+		if err := s.AddInt(int64(i)); err != nil {
+			t.Fatal(err)
+		}
+	}
+	return s
+}
+
+func imageOf(t *testing.T, s *Sketch) []byte {
+	t.Helper()
+	return must[[]byte](t)(s.Image(Width8))
+}
+
+// The image that docs/FORMAT.md and the other languages have of "ann" and "bob".
+func TestKnownImage(t *testing.T) {
+	s := must[*Sketch](t)(New(12))
+	for _, name := range []string{"ann", "bob", "ann"} {
+		if err := s.AddString(name); err != nil {
+			t.Fatal(err)
+		}
+	}
+	if got := hex.EncodeToString(imageOf(t, s)); got != "0201070c03080208f8116004bf20641c" {
+		t.Error(got)
+	}
+}
+
+func TestValues(t *testing.T) {
+	one, other := must[*Sketch](t)(New(12)), must[*Sketch](t)(New(12))
+	for _, err := range []error{one.AddInt(-1), one.AddFloat(math.Copysign(0, -1)), one.AddFloat(math.NaN()), one.AddFloat(1.5), one.Add(nil)} {
+		if err != nil {
+			t.Fatal(err)
+		}
+	}
+	nan := math.Float64frombits(0xfff0000000000001)
+	for _, err := range []error{other.AddUint(math.MaxUint64), other.AddFloat(0), other.AddUint(0), other.AddFloat(nan),
+		other.Add([]byte{0, 0, 0, 0, 0, 0, 0xf8, 0x3f}), other.AddString("")} {
+		if err != nil {
+			t.Fatal(err)
+		}
+	}
+	if !bytes.Equal(imageOf(t, one), imageOf(t, other)) {
+		t.Error("the same values have different images")
+	}
+	if found := must[Estimation](t)(one.Estimate()); math.Round(found.Estimate) != 5 || found.Lower[0] < 5 {
+		t.Error(found)
+	}
+}
+
+// Unions of every order and grouping, of images and sketches, are the sketch of all values.
+func TestUnions(t *testing.T) {
+	for _, n := range []int{3, 100, 5000} {
+		monday, tuesday, all := filled(t, 12, 0, n), filled(t, 12, n/2, 2*n), filled(t, 12, 0, 2*n)
+		a, b := must[*Sketch](t)(New(12)), must[*Sketch](t)(NewUnion(12))
+		for _, err := range []error{a.Merge(monday), a.MergeImage(imageOf(t, tuesday)), b.MergeImage(imageOf(t, tuesday)), b.Merge(monday), b.Merge(b)} {
+			if err != nil {
+				t.Fatal(err)
+			}
+		}
+		if wanted := imageOf(t, all); !bytes.Equal(imageOf(t, a), wanted) || !bytes.Equal(imageOf(t, b), wanted) {
+			t.Errorf("%d values: the unions differ", n)
+		}
+		found := must[Estimation](t)(a.Estimate())
+		if found.Lower[2] > float64(2*n) || found.Upper[2] < float64(2*n) {
+			t.Errorf("%d values: %v", 2*n, found)
+		}
+	}
+}
+
+func TestLgK(t *testing.T) {
+	fine, coarse := filled(t, 14, 0, 9000), filled(t, 10, 0, 9000)
+	before := imageOf(t, fine)
+	if err := fine.Merge(coarse); !errors.Is(err, ErrOtherLgK) {
+		t.Error(err)
+	}
+	if !bytes.Equal(imageOf(t, fine), before) {
+		t.Error("an error changed the sketch")
+	}
+	all := must[*Sketch](t)(NewUnion(12))
+	if err := all.Merge(fine); err != nil || all.LgK() != 12 {
+		t.Error(err, all.LgK())
+	}
+	if err := all.Merge(coarse); err != nil || all.LgK() != 10 || !bytes.Equal(imageOf(t, all), imageOf(t, coarse)) {
+		t.Error(err, all.LgK())
+	}
+	for _, lgK := range []int{-1, 0, 3, 22, 1 << 40} {
+		if _, err := New(lgK); err == nil {
+			t.Error(lgK)
+		}
+		if _, err := NewUnion(lgK); err == nil {
+			t.Error(lgK)
+		}
+	}
+	if _, err := fine.Image(5); err == nil {
+		t.Error("a width of 5")
+	}
+}
+
+func TestBadImages(t *testing.T) {
+	image := imageOf(t, filled(t, 12, 0, 5000))
+	var bad *ImageError
+	for size := 0; size < len(image); size += 1 + size/9 {
+		if _, err := Read(image[:size]); !errors.As(err, &bad) || bad.Reason() != "truncated" || bad.Size != size {
+			t.Error(size, err)
+		}
+	}
+	if _, err := Read([]byte{2, 1, 8, 10, 3, 12, 0, 8}); err == nil ||
+		err.Error() != "these 8 bytes are not the image of a sketch: The family byte is not 7. (family)" {
+		t.Error(err)
+	}
+	if !IsSmall(image) || IsSmall([]byte{2, 1, 7, 21, 3, 12, 0, 8}) || IsSmall(nil) {
+		t.Error("IsSmall")
+	}
+}
+
+func TestCopies(t *testing.T) {
+	for _, n := range []int{0, 3, 300, 5000} {
+		s := filled(t, 12, 0, n)
+		copied := s.Clone()
+		if s.IsEmpty() != (n == 0) || !bytes.Equal(imageOf(t, copied), imageOf(t, s)) {
+			t.Error(n)
+		}
+		before := imageOf(t, s)
+		if err := copied.AddString("another"); err != nil || copied.IsEmpty() || !bytes.Equal(imageOf(t, s), before) {
+			t.Error(n, err)
+		}
+		for _, width := range []Width{Width4, Width6, Width8} {
+			read := must[*Sketch](t)(Read(must[[]byte](t)(s.Image(width))))
+			if !bytes.Equal(imageOf(t, read), before) {
+				t.Error(n, width)
+			}
+		}
+		var buffer bytes.Buffer
+		var read Sketch
+		if err := gob.NewEncoder(&buffer).Encode(s); err != nil {
+			t.Fatal(err)
+		}
+		if err := gob.NewDecoder(&buffer).Decode(&read); err != nil || !bytes.Equal(imageOf(t, &read), before) {
+			t.Error(n, err)
+		}
+	}
+}
+
+// Shards in goroutines.
+func TestShards(t *testing.T) {
+	shards := make([]*Sketch, 4)
+	var group sync.WaitGroup
+	for i := range shards {
+		group.Add(1)
+		go func(i int) {
+			defer group.Done()
+			shards[i] = filled(t, 11, 1000*i, 1000*i+2000)
+		}(i)
+	}
+	group.Wait()
+	all := must[*Sketch](t)(New(11))
+	for _, shard := range shards {
+		if err := all.Merge(shard); err != nil {
+			t.Fatal(err)
+		}
+	}
+	if !bytes.Equal(imageOf(t, all), imageOf(t, filled(t, 11, 0, 5000))) {
+		t.Error("shards differ from the whole")
+	}
+}
+
+func ExampleSketch() {
+	monday, _ := New(12)
+	tuesday, _ := New(12)
+	for user := int64(1); user <= 600; user++ {
+		_ = monday.AddInt(user)
+		_ = tuesday.AddInt(user + 400)
+	}
+	_ = monday.Merge(tuesday)
+	found, _ := monday.Estimate()
+	fmt.Printf("%.0f\n", found.Estimate)
+	// Output: 988
+}
+
+func BenchmarkAddInt(b *testing.B) {
+	s, _ := New(12)
+	for i := 0; i < b.N; i++ {
+		_ = s.AddInt(int64(i))
+	}
+}
