@@ -44,7 +44,7 @@ KNOWN = {"as_chunks_mut", "current_date", "postgres_fdw", "async_capable", "CURR
          "hll_sketch_alloc", "get_allocator",      # of datasketches-cpp
          "hll_sketch_build", "hll_sketch_union", "hll_sketch_get_estimate", "hll_sketch_get_estimate_and_bounds"}
 SKIPPED_FOLDERS = {"out", "build", "dist", ".git", "target", "__pycache__"}
-SOURCES = {".rt", ".antt", ".py", ".c", ".h", ".cpp", ".hpp", ".sh", ".sql", ".rs", ".edit", ".map", ".control", ".toml", ".txt", ".plan", ".cmake", ""}
+SOURCES = {".rt", ".antt", ".py", ".c", ".h", ".cpp", ".hpp", ".sh", ".sql", ".rs", ".edit", ".map", ".control", ".toml", ".txt", ".plan", ".cmake", ".go", ""}
 # These pages speak of another library's names.
 OTHERS = {"DIFFERENCES.md", "FAULTS.md", "OTHER_LANGUAGES.md"}
 # Not run: the check itself, and what installs packages of a release.

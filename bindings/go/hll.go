@@ -16,6 +16,7 @@ package hll
 import "C"
 
 import (
+	"encoding"
 	"encoding/binary"
 	"errors"
 	"fmt"
@@ -275,6 +276,11 @@ func (s *Sketch) Clone() *Sketch {
 		ends:   append([]C.size_t(nil), s.ends...),
 	}
 }
+
+var (
+	_ encoding.BinaryMarshaler   = (*Sketch)(nil)
+	_ encoding.BinaryUnmarshaler = (*Sketch)(nil)
+)
 
 // MarshalBinary returns the 8-bit image, for encoding/gob and the like.
 func (s *Sketch) MarshalBinary() ([]byte, error) { return s.Image(Width8) }
