@@ -112,7 +112,7 @@ fn a_set_in_another_order() {
 
 #[test]
 fn updates() {
-    let long = "a".repeat(100);
+    let (long, medium) = ("a".repeat(300), "a".repeat(256));
     for n in SIZES {
         let start = filled(n);
         let before = start.serialize();
@@ -129,6 +129,7 @@ fn updates() {
         assert_eq!(*one.borrow(), with(&start, |sketch| sketch.update_with_coupon(Coupon::pack(9, 63))));
     }
     assert!(fail_each(|| Coupon::try_from_value(long.as_str()), || true) >= 1);
+    assert_eq!(fail_each(|| Coupon::try_from_value(medium.as_str()), || true), 0);
 }
 
 fn with(start: &HllSketch, change: impl Fn(&mut HllSketch)) -> HllSketch {

@@ -1,6 +1,7 @@
 // SPDX-License-Identifier: Apache-2.0
 //! Plain calls of hll.h on images, which walks are compared with; and random numbers.
 #![allow(dead_code)] // each test takes what it needs
+#![allow(unknown_lints, unexpected_cfgs)] // build.rs sets hll_versioned
 
 use std::os::raw::c_uint;
 
@@ -8,7 +9,9 @@ use hll_sketches::common::Estimation;
 use hll_sketches::hll::HllType;
 
 extern "C" {
+    #[cfg_attr(hll_versioned, link_name = "hll_0_2_image_new")]
     fn hll_image_new(lg_k: c_uint, width: c_uint, out: *mut u8, room: usize, size: *mut usize) -> u8;
+    #[cfg_attr(hll_versioned, link_name = "hll_0_2_image_add")]
     fn hll_image_add(
         image: *const u8,
         len: usize,
@@ -20,6 +23,7 @@ extern "C" {
         room: usize,
         size: *mut usize,
     ) -> u8;
+    #[cfg_attr(hll_versioned, link_name = "hll_0_2_image_add_coupon")]
     fn hll_image_add_coupon(
         image: *const u8,
         len: usize,
@@ -29,6 +33,7 @@ extern "C" {
         room: usize,
         size: *mut usize,
     ) -> u8;
+    #[cfg_attr(hll_versioned, link_name = "hll_0_2_image_convert")]
     fn hll_image_convert(
         image: *const u8,
         len: usize,
@@ -37,6 +42,7 @@ extern "C" {
         room: usize,
         size: *mut usize,
     ) -> u8;
+    #[cfg_attr(hll_versioned, link_name = "hll_0_2_images_union")]
     fn hll_images_union(
         lg_max_k: c_uint,
         width: c_uint,
@@ -49,7 +55,9 @@ extern "C" {
         size: *mut usize,
         failed: *mut usize,
     ) -> u8;
+    #[cfg_attr(hll_versioned, link_name = "hll_0_2_image_check")]
     fn hll_image_check(image: *const u8, len: usize) -> u8;
+    #[cfg_attr(hll_versioned, link_name = "hll_0_2_estimate")]
     fn hll_estimate(image: *const u8, len: usize, found: *mut Estimation) -> u8;
 }
 
