@@ -388,6 +388,29 @@ try_install() {
     [ -z "$(find "$place" ! -type d)" ]
 }
 
+# The version of the JDK, 0 if none is here.
+java_version() {
+    has java && java -version 2>&1 | sed -n 's/.*version "\([0-9]*\).*/\1/p;q' | grep . || echo 0
+}
+
+# The program in Java merges two sketches, prints the estimate, and names a file that is none. "ann" and "bob", and "bob" and "eve".
+try_java() {
+    printf '\002\001\007\014\003\010\002\010\370\021\140\004\277\040\144\034' >"$tests/one.hll"
+    printf '\002\001\007\014\003\010\002\010\277\040\144\034\005\000\000\014' >"$tests/two.hll"
+    printf '\002\001\010\014\003\014\000\010' >"$tests/none.hll"
+    java="java --enable-native-access=ALL-UNNAMED -Dhll=$(pwd)/$build/libhll.so.0 ../../examples/java/Distinct.java"
+    [ "$($java "$tests/one.hll" "$tests/two.hll")" = '3, between 3 and 3' ] || return 1
+    ! $java "$tests/one.hll" "$tests/none.hll" >"$tests/said" 2>&1 && grep 'none.hll: not the image of a sketch .* status 2' "$tests/said"
+}
+
+test_java() {
+    if [ "$(java_version)" -lt 22 ]; then
+        echo '# no JDK of version 22 or later is here: the example in Java is not run'
+        return
+    fi
+    expect 'the program in Java' try_java
+}
+
 if [ $# -gt 1 ]; then
     test_other_build "$2"
 else
@@ -400,6 +423,7 @@ else
     expect 'the example' try_example "$build/example"
     expect 'users of a million keys' million_keys
     expect 'the program of the README' try_readme
+    test_java
     expect 'install and uninstall' try_install
     expect 'paths with spaces and quotes' try_odd_paths
     expect 'without rt' try_without_rt
