@@ -38,7 +38,8 @@ def part(name, before=""):
 
 RELEASES = [
     Release("Debian 13", "trixie", BUILD + " g++ git perl pkg-config xxd python3 python3-numpy python3-pandas python3-pip python3-setuptools python3-wheel "
-            "python3-venv sqlite3 libsqlite3-dev postgresql postgresql-server-dev-all libreadline-dev zlib1g-dev",
+            "python3-venv sqlite3 libsqlite3-dev postgresql postgresql-server-dev-all libreadline-dev zlib1g-dev "
+            "openjdk-25-jdk-headless",
             [("make", "make"), part("documents"), part("python"), part("postgresql"), part("sqlite"), part("programs"),
              part("c", "HLL_WALKS=tenth "), part("cpp", "HLL_WALKS=tenth ")]),
     Release("Debian 11", "bullseye", BUILD + " perl python3 python3-distutils",
