@@ -10,6 +10,7 @@ use crate::state::too_small;
 use hll_base::bounds::MAX_LG_K;
 use hll_base::error::Reason;
 use hll_sketch::borrowed_image::BorrowedImage;
+use hll_sketch::coupon_room::CouponRoom;
 use hll_state::header::{HEADER_LEN, Header};
 use hll_state::join::{Joined, bit_of};
 use hll_state::memory::{close, open, resolve};
@@ -31,7 +32,8 @@ pub(crate) fn join_image(
     let Some(header) = open_under(state, lg_max_k) else {
         return Reason::Argument.number();
     };
-    match BorrowedImage::read(alloc, image) {
+    let mut room = CouponRoom::new();
+    match BorrowedImage::read(alloc, image, &mut room) {
         Ok(image) => {
             let widths = bit_of(image.hll_type());
             join(header, lg_max_k, state, size, widths, &image)

@@ -9,6 +9,7 @@ use hll_base::hll_type::HllType;
 use hll_coupons::coupon::Coupon;
 use hll_sketch::HllSketch;
 use hll_sketch::borrowed_image::BorrowedImage;
+use hll_sketch::coupon_room::CouponRoom;
 use hll_text::fault::Fault;
 use std::alloc::Global;
 use std::mem;
@@ -62,7 +63,8 @@ fn least_registers<'h>(sketch: &HllSketch<&'h Heap>) -> Result<Vec<u8, &'h Heap>
 
 /// Returns whether the sketch of an image is empty.
 fn is_empty_image(heap: &Heap, image: &[u8]) -> Result<bool, Error> {
-    Ok(BorrowedImage::read(heap, image)?.is_empty())
+    let mut room = CouponRoom::new();
+    Ok(BorrowedImage::read(heap, image, &mut room)?.is_empty())
 }
 
 /// Takes a sketch, and leaves an empty one in its place.
@@ -281,11 +283,7 @@ const SKETCH_CALLS: [(SketchCall, [[u64; 10]; 3]); 18] = [
     ),
     (
         SketchCall::BorrowBuckets,
-        [
-            [0, 0, 0, 1, 1, 1, 0, 2, 2, 6],
-            [0, 0, 0, 1, 1, 1, 0, 0, 0, 0],
-            [0, 0, 0, 1, 1, 1, 0, 0, 0, 0],
-        ],
+        [[0, 0, 0, 0, 0, 0, 0, 2, 2, 6], [0; 10], [0; 10]],
     ),
     (
         SketchCall::UpdateNew,

@@ -9,6 +9,7 @@ use Rattle.hll_registers.specs.Store.{Stored}
 use Rattle.hll_sketch.specs.Checks.{size_fault}
 use Rattle.hll_sketch.specs.Layout.{sketch_of}
 use Rattle.hll_sketch.specs.MergedIn.{HasCompactCoupons, HasPlainRegisters}
+use Rattle.hll_sketch.specs.Updatable.{HasUpdatableCoupons}
 use Rattle.hll_sketch.specs.Value.{Sketch, coupons, registers}
 use Rattle.hll_sketch.specs.declared.borrowed_image.BorrowedImage.{BorrowedImage}
 use Rattle.hll_sketch.specs.declared.borrowed_image.BorrowedImage.TheVariants.{Coupons, Table, Nibbles, Groups, Bytes}
@@ -29,9 +30,10 @@ sketch_of_borrowed (Nibbles x) = sketch_in_width Hll4 x
 sketch_of_borrowed (Groups x) = sketch_in_width Hll6 x
 sketch_of_borrowed (Bytes x) = sketch_in_width Hll8 x
 
--- Reading needs an allocation only if the header, the counts and the length are right: for coupons that are not compact, or for
--- which one pass is not enough, and for the exceptions of 4-bit registers.
+-- Reading needs an allocation only if the header, the counts and the length are right: for coupons of a compact image for which
+-- one pass is not enough, for an updatable image unless it has few coupons, and for the exceptions of 4-bit registers.
 pub record BorrowNeedsMemory (b : List ℕ) : Type 0 where
   pub sized : size_fault b ≡ None
   pub coupons : HasCompactCoupons b → ⊥
+  pub buckets : HasUpdatableCoupons b → ⊥
   pub registers : HasPlainRegisters b → ⊥

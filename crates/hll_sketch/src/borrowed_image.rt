@@ -1,5 +1,6 @@
 // SPDX-License-Identifier: Apache-2.0
-//! The sketch of an image. Coupons or registers that can be used in the bytes of the image are not copied.
+//! The sketch of an image. Coupons or registers that can be used in the bytes of the image are not copied, and few coupons with
+//! gaps between them are copied into room that the caller lends.
 ghost use Rattle.std.specs.Prelude.{◌≡◌, ◌<◌, IfOk, IfErr};
 ghost use Rattle.hll_base.specs.declared.error.Reason.TheVariants.{Memory};
 ghost use Rattle.hll_coupons.specs.Coupons.{raw_coupons, AreCoupons};
@@ -11,12 +12,14 @@ ghost use Rattle.hll_sketch.specs.MergedIn.{IsOfCoupons};
 ghost use Rattle.hll_sketch.specs.Refusal.{IsRefusal};
 ghost use Rattle.hll_sketch.specs.Value.{is_empty, IsLgK};
 
+use crate::coupon_room::CouponRoom;
 use crate::coupons_of_image::CouponsOfImage;
 use crate::header::{Header, Stage};
 use crate::raw_coupons::{RawCoupons, compact_coupons};
 use crate::raw_registers::{eight_bit_registers, four_bit_registers, six_bit_registers};
 use crate::read_image::read_sketch;
 use crate::sketch::HllSketch;
+use crate::updatable::updatable_coupons;
 use hll_base::error::Error;
 use hll_base::hll_type::HllType;
 use hll_registers::group_slice::GroupSlice;
@@ -27,7 +30,7 @@ use std::alloc::{Allocator, Global};
 
 /// The sketch of an image. Only a table, or a map for the exceptions of 4-bit registers, is allocated for it.
 pub enum BorrowedImage<'a, A: Allocator = Global> {
-    /// Coupons of a compact image that ascend, or are at most 128.
+    /// Coupons of a compact image that ascend or are at most 128, or 1 to 128 coupons of an updatable image.
     Coupons(CouponsOfImage<'a>),
     /// Any other list or set of coupons.
     Table(HllSketch<A>),
@@ -53,19 +56,24 @@ impl<'a, A: Allocator> Drop for BorrowedImage<'a, A> {
 }
 
 impl<'a, A: Allocator + Clone> BorrowedImage<'a, A> {
-    /// Reads an image of any stage and width. Bytes after the image are ignored.
+    /// Reads an image of any stage and width. Bytes after the image are ignored. Up to 128 coupons of an updatable image are
+    /// copied into `room`.
     ///
     /// Fails with the reason of the first check that the image fails, or else with `Memory`. Allocates only once all bytes that
-    /// the image needs are there: a table for coupons, unless the image is compact, and they ascend or are at most 128; and a
-    /// map for the exceptions of 4-bit registers, if there are any.
-    pub fn read(alloc: A, image: &'a [u8]) -> Result<BorrowedImage<'a, A>, Error>
+    /// the image needs are there: a table for coupons, except for at most 128 or ascending ones in a compact image and for 1 to
+    /// 128 in an updatable one; and a map for the exceptions of 4-bit registers, if there are any.
+    pub fn read(
+        alloc: A,
+        image: &'a [u8],
+        room: &'a mut CouponRoom,
+    ) -> Result<BorrowedImage<'a, A>, Error>
         ensures ok { IfOk result (λ r. IsReadAs image.now (sketch_of_borrowed r)) }
         ensures err { IfErr result (IsRefusal image.now) }
         ensures needed { IfErr result (λ e. e ≡ Memory → BorrowNeedsMemory image.now) }
     {
         let header = Header::read(image)?;
         match header.stage {
-            Stage::List | Stage::Set => read_coupons(&alloc, image, header),
+            Stage::List | Stage::Set => read_coupons(&alloc, image, header, room),
             Stage::Hll => read_registers(&alloc, image, header),
         }
     }
@@ -129,6 +137,7 @@ fn read_coupons<'a, A: Allocator + Clone>(
     alloc: &A,
     image: &'a [u8],
     header: Header,
+    room: &'a mut CouponRoom,
 ) -> Result<BorrowedImage<'a, A>, Error>
     requires has { HasHeader image.now (stage_bits image.now) }
     requires stage { stage_bits image.now < 2 }
@@ -137,19 +146,19 @@ fn read_coupons<'a, A: Allocator + Clone>(
     ensures err { IfErr result (IsRefusal image.now) }
     ensures needed { IfErr result (λ e. e ≡ Memory → BorrowNeedsMemory image.now) }
 {
-    match compact_coupons(image, header) {
-        Some(coupons) => {
-            let coupons = coupons_of_image(image, header, coupons);
-            Ok(BorrowedImage::Coupons(coupons))
-        }
-        None => {
-            let sketch = read_sketch(alloc, image, header)?;
-            Ok(BorrowedImage::Table(sketch))
-        }
+    if let Some(coupons) = compact_coupons(image, header) {
+        let coupons = coupons_of_image(image, header, coupons);
+        return Ok(BorrowedImage::Coupons(coupons));
     }
+    if let Some(coupons) = updatable_coupons(image, header, room.cleared()) {
+        let coupons = coupons_of_image(image, header, coupons);
+        return Ok(BorrowedImage::Coupons(coupons));
+    }
+    let sketch = read_sketch(alloc, image, header)?;
+    Ok(BorrowedImage::Table(sketch))
 }
 
-/// Returns the coupons of a compact image, with what its header says.
+/// Returns the coupons of an image, with what its header says.
 fn coupons_of_image<'a>(
     image: &'a [u8],
     header: Header,

@@ -1,5 +1,5 @@
 // SPDX-License-Identifier: Apache-2.0
-//! The coupons of a compact image, with what its header says.
+//! The coupons of an image, with what its header says.
 ghost use Rattle.std.specs.FinSet.{len};
 ghost use Rattle.std.specs.Int.{w32, from_le_bytes};
 ghost use Rattle.std.specs.Prelude.{◌≡◌, ◌≢◌, ◌+◌, ◌^◌, ◌<◌, ◌≤◌, length, map};
@@ -8,7 +8,7 @@ ghost use Rattle.hll_sketch.specs.Value.{IsLgK};
 
 use hll_base::hll_type::HllType;
 
-/// The coupons of a compact image, borrowed from its bytes. No two are equal.
+/// The coupons of an image, borrowed from its bytes or from room that they were copied into. No two are equal.
 #[derive(Clone, Copy)]
 pub struct CouponsOfImage<'a> {
     /// The logarithm of the number of registers, 4 to 21.

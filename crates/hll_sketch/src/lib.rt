@@ -7,6 +7,7 @@ pub mod borrowed_image;
 pub mod borrowed_registers;
 mod conversion;
 pub mod coupon_images;
+pub mod coupon_room;
 pub mod coupons_of_image;
 mod folding;
 mod header;
