@@ -5,7 +5,6 @@ ghost use Rattle.hll_base.specs.declared.error.Reason.TheVariants.{Memory};
 ghost use Rattle.hll_base.specs.declared.error.Reason.TheVariants as reasons;
 ghost use Rattle.hll_coupons.specs.Hashed.{coupon_of_bytes};
 ghost use Rattle.hll_kernels.specs.Packed.{AreRegisters};
-ghost use Rattle.hll_base.specs.declared.hll_type.HllType.TheVariants.{Hll8};
 ghost use Rattle.hll_sketch.specs.EstimatorFields.{FillsFields};
 ghost use Rattle.hll_sketch.specs.RegisterImages.{FillsState};
 ghost use Rattle.hll_sketch.specs.Value as contents;
@@ -25,7 +24,7 @@ ghost use Rattle.hll_c.specs.Estimates.{IsEstimateOfContent};
 ghost use Rattle.hll_c.specs.States.{MakesState, AddsToState, IsOfState, SaysEstimateOfState, RefusesState};
 ghost use Rattle.hll_c.specs.declared.estimate.HllEstimate.{HllEstimate};
 
-use crate::answer::{BUFFER, OK, image_with_fields, put_bytes};
+use crate::answer::{BUFFER, OK, put_bytes};
 use crate::arguments::{lg_k_of_number, width_of};
 use crate::batch::are_ends;
 use crate::byte_registers::have_values;
@@ -34,10 +33,10 @@ use hll_base::error::{Error, Reason};
 use hll_base::hll_type::HllType;
 use hll_coupons::coupon::Coupon;
 use hll_registers::estimate_state::EstimateState;
+use hll_registers::packed_images::packed_image;
 use hll_registers::register_slice::RegisterSlice;
 use hll_registers::registers::Registers;
 use hll_sketch::coupon_images::coupon_image;
-use hll_sketch::max_registers::sketch_with_state;
 use hll_sketch::stage::stage;
 use hll_state::header::{CouponTable, HEADER_LEN, Header, Held};
 use hll_state::memory::{Begun, begin, close, has_raised, resolve};
@@ -195,37 +194,29 @@ fn image_of_held(
         Held::Coupons(coupons) => image_of_coupons(alloc, header.lg_k, hll_type, coupons, body),
         Held::Registers(estimate_state) => {
             let registers = small_registers(body, header.lg_k)?;
-            if hll_type == HllType::Hll8 {
-                return image_of_registers(alloc, header.lg_k, registers, estimate_state);
-            }
-            image_with_fields(sketch_with_state(
-                alloc,
-                header.lg_k,
-                hll_type,
-                registers,
-                estimate_state,
-            )?)
+            image_of_registers(alloc, header.lg_k, hll_type, registers, estimate_state)
         }
     }
 }
 
-/// Returns the image of 8-bit registers, with their estimator fields set if their estimate state is cleared. The registers are
-/// copied once, into the image.
+/// Returns the image of registers at a width, with their estimator fields set if their estimate state is cleared. The registers
+/// are copied or packed once, into the image.
 ///
 /// Fails with `Memory`.
 fn image_of_registers(
     alloc: Global,
     lg_k: u8,
+    hll_type: HllType,
     registers: &[u8],
     state: EstimateState,
 ) -> Result<Vec<u8>, Error>
     requires lg_k { IsLgK lg_k }
     requires registers { AreRegisters lg_k registers.now }
-    ensures ok { IfOk result (λ image. IsImageOf (FillsFields (record { lg_k = lg_k; width = Hll8; content = contents.registers registers.now state })) image.items) }
+    ensures ok { IfOk result (λ image. IsImageOf (FillsFields (record { lg_k = lg_k; width = hll_type; content = contents.registers registers.now state })) image.items) }
     ensures err { IfErr result (λ e. e ≡ Memory) }
 {
     let source = RegisterSlice::new(lg_k, registers).with_state(state);
-    source.image_with(alloc, filled_state(&source))
+    packed_image(alloc, lg_k, hll_type, registers, filled_state(&source))
 }
 
 /// Returns the estimate state of registers, or, if that is cleared, the state with the estimator fields of the registers.

@@ -156,3 +156,14 @@ put_end at k R V W P v long e =
     let none : drop k (drop at V) ≡ [] = drop_all k (drop at V) (omega (arith, length-drop at V)) in
     let front : take at V ≡ P = (λ i. take (long i) (v i)) ∙ take-put R P (omega (arith, same)) in
     (λ i. front i ++ (W ++ none i)) ∙ ap (λ S. P ++ S) (append-nil W)
+
+-- a part that was borrowed and written whole
+pub put_mid-whole : {X : Type 0} (at k : ℕ) (V W : List X) → length W ≡ k → at + k ≤ length V → put_mid at k V W ≡ put_chunk at V W
+put_mid-whole zero zero [] [] e h = refl
+put_mid-whole zero zero (v ∷ V) [] e h = refl
+put_mid-whole zero zero V (w ∷ W) e h = absurd (omega arith)
+put_mid-whole zero (suc k) V [] e h = absurd (omega arith)
+put_mid-whole zero (suc k) [] (w ∷ W) e h = absurd (omega arith)
+put_mid-whole zero (suc k) (v ∷ V) (w ∷ W) e h = ap (λ S. w ∷ S) (put_mid-whole zero k V W (omega arith) (omega arith))
+put_mid-whole (suc at) k [] W e h = absurd (omega arith)
+put_mid-whole (suc at) k (v ∷ V) W e h = ap (λ S. v ∷ S) (put_mid-whole at k V W e (omega arith))

@@ -15,8 +15,8 @@ use Rattle.std.proofs.lemmas.Simd.{Each1-get_or, length-zip2, pick_l_whole}
 use Rattle.hll_base.specs.Join.{join}
 use Rattle.hll_kernels.specs.Groups.{IsGroup, group_fields, registers_in}
 use Rattle.hll_kernels.specs.Lanes.{max_at, words_of, bytes_of, fields_of, numbers_of, groups_of}
-use Rattle.hll_kernels.specs.Packed.{group_bytes, fields, zeros}
-use Rattle.hll_kernels.proofs.Grouping.{small-group_fields, group_fields-group_bytes}
+use Rattle.hll_kernels.specs.Packed.{group_bytes, field_bytes, fields, zeros}
+use Rattle.hll_kernels.proofs.Grouping.{small-group_fields, group_fields-group_bytes, field_bytes-registers_in}
 use Rattle.hll_kernels.proofs.Parts.{max_more, greater}
 use Rattle.hll_kernels.proofs.FourBitLanes.{above}
 use Rattle.hll_kernels.proofs.ZeroTests.{nonzero_lanes, nonzeros_by_lanes}
@@ -439,3 +439,18 @@ put_four (suc at) (g ∷ G) a b c d h =
     let two : suc at + 2 ≡ suc (at + 2) = omega arith in
     let three : suc at + 3 ≡ suc (at + 3) = omega arith in
     (λ i. set (set (set (g ∷ set G at a) (one i) b) (two i) c) (three i) d) ∙ ap (λ S. g ∷ S) (put_four at G a b c d (omega arith))
+
+-- ---- the bytes of groups
+
+pub length-bytes_of_groups : (G : List (List ℕ)) → All IsGroup G → length (flat_map (λ g. g) G) ≡ 3 * length G
+length-bytes_of_groups [] h = refl
+length-bytes_of_groups (g ∷ G) h =
+    omega (arith, length-append g (flat_map (λ x. x) G), (h 0 [] (omega arith)).three, length-bytes_of_groups G (λ k d l. h (suc k) d (omega arith)))
+
+-- three bytes for each four registers
+pub length-packed : (k : ℕ) (xs : List ℕ) → length xs ≡ 4 * k → All (λ v. v ≤ 63) xs → length (flat_map (λ g. g) (groups_of xs)) ≡ 3 * k
+length-packed k xs e h = length-bytes_of_groups (groups_of xs) (IsGroup-groups_of k xs e h) ∙ ap (λ n. 3 * n) (length-groups_of k xs e)
+
+-- with a zero byte after them, they are the fields of the registers
+pub field_bytes-groups_of : (k : ℕ) (xs : List ℕ) → length xs ≡ 4 * k → All (λ v. v ≤ 63) xs → flat_map (λ g. g) (groups_of xs) ++ 0 ∷ [] ≡ field_bytes xs
+field_bytes-groups_of k xs e h = field_bytes-registers_in (groups_of xs) (IsGroup-groups_of k xs e h) ∙ ap field_bytes (registers_in-groups_of k xs e h)

@@ -1,13 +1,13 @@
 // SPDX-License-Identifier: Apache-2.0
 //! 6-bit registers: groups of four registers in three bytes (docs/FORMAT.md, "Packed registers").
-ghost use Rattle.std.specs.Prelude.{◌≡◌, ℕ, ◌+◌, ◌-◌, ◌*◌, ◌/◌, ◌%◌, ◌^◌, ◌<◌, ◌≤◌, ◌==◌, [], ◌∷◌, length, map, take, slice_index, slice_set, All, IfOk};
-ghost use Rattle.std.specs.List.{list_all};
+ghost use Rattle.std.specs.Prelude.{◌≡◌, ℕ, ◌+◌, ◌-◌, ◌*◌, ◌/◌, ◌%◌, ◌^◌, ◌<◌, ◌≤◌, ◌==◌, [], ◌∷◌, ◌++◌, length, map, take, slice_index, slice_set, All, IfOk};
+ghost use Rattle.std.specs.List.{list_all, flat_map};
 ghost use Rattle.std.specs.Simd.Lanes.{chunk, put_chunk, sum_l, zip2};
 ghost use Rattle.hll_base.specs.Join.{join};
 ghost use Rattle.hll_kernels.specs.Groups.{IsGroup, group_fields, registers_in};
 ghost use Rattle.hll_kernels.specs.Lanes.{max_at, words_of, bytes_of, fields_of, numbers_of, groups_of};
 ghost use Rattle.hll_kernels.specs.Packed as packed;
-ghost use Rattle.hll_kernels.specs.Packed.{fields, group_bytes, zeros};
+ghost use Rattle.hll_kernels.specs.Packed.{fields, field_bytes, group_bytes, zeros};
 ghost use Rattle.hll_kernels.specs.WeightSums.{AreSumsOf};
 
 use crate::kernels::{WeightSums, all_zero, block_sums, count_zeros, max_16, max_one, weight_sums};
@@ -131,11 +131,65 @@ fn put_four_groups(groups: &mut [[u8; 3]], at: usize, block: &[u8; 16])
     requires small { All (λ v. v ≤ 63) block.now }
     ensures { groups.new ≡ put_chunk at groups.old (groups_of block.now) }
 {
+    let [first, second, third, fourth] = four_groups(block);
+    groups[at] = first;
+    groups[at + 1] = second;
+    groups[at + 2] = third;
+    groups[at + 3] = fourth;
+}
+
+/// Returns the groups of sixteen registers.
+#[inline(always)]
+fn four_groups(block: &[u8; 16]) -> [[u8; 3]; 4]
+    requires { All (λ v. v ≤ 63) block.now }
+    ensures { result ≡ groups_of block.now }
+{
     let [first, second, third, fourth] = numbers_in(block).to_array();
-    groups[at] = group_of(first);
-    groups[at + 1] = group_of(second);
-    groups[at + 2] = group_of(third);
-    groups[at + 3] = group_of(fourth);
+    [
+        group_of(first),
+        group_of(second),
+        group_of(third),
+        group_of(fourth),
+    ]
+}
+
+/// Writes registers in groups: three bytes for each four registers, sixteen registers at a time.
+///
+/// The number of registers is a multiple of sixteen, and each is at most 63. One pass; allocates nothing.
+pub fn write_groups(bytes: &mut [u8], registers: &[u8])
+    requires size { 4 * length bytes.old ≡ 3 * length registers.now }
+    requires whole { length registers.now % 16 ≡ 0 }
+    requires small { All (λ v. v ≤ 63) registers.now }
+    ensures { bytes.new ++ 0 ∷ [] ≡ field_bytes registers.now }
+{
+    let (blocks, _) = registers.as_chunks::<16>();
+    for place in 0..blocks.len() {
+        write_four_groups(bytes, 12 * place, &blocks[place]);
+    }
+}
+
+/// Writes the groups of sixteen registers over the twelve bytes from `at` on.
+// (an assignment of arrays: `copy_from_slice` compares addresses, and then the compiler keeps the groups in memory)
+#[inline(always)]
+fn write_four_groups(bytes: &mut [u8], at: usize, block: &[u8; 16])
+    requires room { at + 12 ≤ length bytes.old }
+    requires small { All (λ v. v ≤ 63) block.now }
+    ensures { bytes.new ≡ put_chunk at bytes.old (flat_map (λ g. g) (groups_of block.now)) }
+{
+    put_12(&mut bytes[at..at + 12], four_groups(block));
+}
+
+/// Writes four groups over twelve bytes.
+#[inline(always)]
+fn put_12(bytes: &mut [u8], groups: [[u8; 3]; 4])
+    requires { length bytes.old ≡ 12 }
+    ensures { bytes.new ≡ flat_map (λ g. g) groups }
+{
+    if let Some(from) = groups.as_flattened().as_array::<12>()
+        && let Some(to) = bytes.as_mut_array::<12>()
+    {
+        *to = *from;
+    }
 }
 
 /// Returns the lower three bytes of a number.

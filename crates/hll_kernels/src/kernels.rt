@@ -1,7 +1,7 @@
 // SPDX-License-Identifier: Apache-2.0
 //! Loops over the bytes of registers: with SIMD lanes, and byte by byte for what is left after the last full block.
 //! None of them allocates.
-ghost use Rattle.std.specs.Prelude.{◌≡◌, ℕ, ◌+◌, ◌-◌, ◌*◌, ◌/◌, ◌%◌, ◌^◌, ◌<◌, ◌≤◌, ◌==◌, nat_le, nat_lt, not, [], ◌∷◌, length, map, slice_index, All};
+ghost use Rattle.std.specs.Prelude.{◌≡◌, ℕ, ◌+◌, ◌-◌, ◌*◌, ◌/◌, ◌%◌, ◌^◌, ◌<◌, ◌≤◌, ◌==◌, nat_le, nat_lt, not, [], ◌∷◌, count_by, length, map, slice_index, All};
 ghost use Rattle.std.specs.List.{list_all};
 ghost use Rattle.std.specs.Simd.Lanes.{mask_l, sum_l};
 ghost use Rattle.hll_base.specs.Join.{join};
@@ -130,6 +130,33 @@ fn zeros_one_by_one(bytes: &[u8]) -> usize
         if *byte == 0 {
             count += 1;
         }
+    }
+    count
+}
+
+/// Returns the number of bytes that equal a value. One pass; allocates nothing.
+pub fn count_of(bytes: &[u8], value: u8) -> usize
+    ensures count { result ≡ count_by (λ v. v == value) bytes.now }
+    ensures bound { result ≤ length bytes.now }
+{
+    let (blocks, rest) = bytes.as_chunks::<64>();
+    let mut count = 0;
+    for block in blocks {
+        count += usize::from(count_of_few(block, value));
+    }
+    count + usize::from(count_of_few(rest, value))
+}
+
+/// Returns the number of at most 64 bytes that equal a value. It fits a byte.
+#[inline(always)]
+fn count_of_few(bytes: &[u8], value: u8) -> u8
+    requires { length bytes.now ≤ 64 }
+    ensures count { result ≡ count_by (λ v. v == value) bytes.now }
+    ensures bound { result ≤ 64 }
+{
+    let mut count = 0;
+    for byte in bytes {
+        count += u8::from(*byte == value);
     }
     count
 }

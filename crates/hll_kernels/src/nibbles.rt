@@ -437,7 +437,7 @@ pub fn packed_nibbles<A: Allocator>(
 /// Writes the nibbles of registers above the minimum. One pass. A register below the minimum counts as the minimum.
 ///
 /// There are two registers for each byte.
-fn pack_nibbles(bytes: &mut [u8], registers: &[u8], minimum: u8)
+pub fn pack_nibbles(bytes: &mut [u8], registers: &[u8], minimum: u8)
     requires { 2 * length bytes.old ≡ length registers.now }
     ensures { bytes.new ≡ nibble_bytes_above minimum registers.now }
 {

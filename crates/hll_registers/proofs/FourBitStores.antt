@@ -83,6 +83,12 @@ len-exceptions k R small size = once _ 0 R (let few : 2 ^ k ≤ 2 ^ 21 = pow_mon
 pub twice : (k : ℕ) → 4 ≤ k → 2 ^ k ≡ 2 * 2 ^ (k - 1)
 twice k low = ap (λ n. 2 ^ n) (let e : k ≡ suc (k - 1) = omega (arith, low) in e) ∙ omega (arith, pow-suc 2 (k - 1))
 
+-- the registers are whole blocks of sixteen
+pub sixteens : (k : ℕ) → 4 ≤ k → 2 ^ k ≡ 16 * 2 ^ (k - 4)
+sixteens k low =
+    ap (λ n. 2 ^ n) (let e : k ≡ suc (suc (suc (suc (k - 4)))) = omega (arith, low) in e)
+    ∙ omega (arith, pow-suc 2 (suc (suc (suc (k - 4)))), pow-suc 2 (suc (suc (k - 4))), pow-suc 2 (suc (k - 4)), pow-suc 2 (k - 4))
+
 pub half_size : (k : ℕ) (bytes : List ℕ) → 4 ≤ k → 2 * length bytes ≡ 2 ^ k → length bytes ≡ 2 ^ (k - 1)
 half_size k bytes low size = omega (arith, size, twice k low)
 

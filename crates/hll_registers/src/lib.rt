@@ -13,6 +13,7 @@ pub mod nibble_parts;
 pub mod nibble_registers;
 pub mod nibble_slice;
 mod nibble_sums;
+pub mod packed_images;
 pub mod plain_images;
 pub mod preamble;
 pub mod register_slice;

@@ -32,7 +32,6 @@ use hll_arrays::registers::{Registers, two_to};
 use hll_base::error::Error;
 use hll_base::hll_type::HllType;
 use hll_coupons::container::Container;
-use hll_registers::estimate_state::EstimateState;
 use hll_registers::folds::max_folds;
 use std::alloc::Allocator;
 
@@ -211,30 +210,6 @@ fn max_blocks(front: &mut [u8], after: &[u8], lg_k: u8, to: u8)
     for block in 0..two_to(lg_k - to) - 1 {
         max_into(front, &after[block * size..(block + 1) * size]);
     }
-}
-
-/// Returns a sketch of a width in registers with these values and this estimate state.
-///
-/// Allocates the registers, and for 4 and 6 bits also 8-bit registers. Fails with `Memory`.
-pub fn sketch_with_state<A: Allocator + Clone>(
-    alloc: A,
-    lg_k: u8,
-    hll_type: HllType,
-    registers: &[u8],
-    state: EstimateState,
-) -> Result<HllSketch<A>, Error>
-    requires lg_k { IsLgK lg_k }
-    requires registers { AreRegisters lg_k registers.now }
-    ensures ok { IfOk result (λ s. sketch_of s ≡ record { lg_k = lg_k; width = hll_type; content = values.registers registers.now state }) }
-    ensures err { IfErr result (λ e. e ≡ Memory) }
-{
-    let mut array = Array8::from_values(alloc, lg_k, registers)?;
-    array.restore_estimate_state(state);
-    let mode = array_into_mode(array, hll_type)?;
-    Ok(HllSketch {
-        lg_config_k: lg_k,
-        mode,
-    })
 }
 
 /// Returns a sketch of a width in registers with these values, and with its estimator fields set.
