@@ -8,6 +8,8 @@ use Rattle.std.proofs.lemmas.Bool.{cases_lt, cases_eq}
 use Rattle.std.proofs.lemmas.Bool.Decides.{nat_tests}
 use Rattle.std.proofs.lemmas.Nat.{leading_top, pow-add, pow_pos, le-div, div_below, mod_below, div-add-mod'}
 use Rattle.hll_estimate.specs.Double.{IsFinite, IsNearest, value_of}
+use Rattle.hll_estimate.specs.Monotone.{DoublesNeverFall}
+use Rattle.hll_estimate.specs.declared.estimate.Estimate.TheVariants.{Finite, Infinite}
 
 -- ---- how many bits there are
 
@@ -205,3 +207,47 @@ nearest_up w n b h lt is rest tie =
     let half = half_is b lt in
     nearest_upper w n a.finite (omega (arith, a.lower, a.upper, a.rest)) (omega (arith, a.lower, a.upper, half, rest))
     (λ e. let t = tie (omega (arith, a.lower, a.upper, half, e)) in omega (arith, a.parity, t))
+
+-- ---- the nearest number never falls
+
+-- of two numbers the upper one is no farther, so what is between them is at least half way; and where the lower one is no
+-- farther, at most half way
+upper_near : (u v n : ℕ) → u < v → v - n + (n - v) ≤ u - n + (n - u) → u + v ≤ 2 * n
+upper_near u v n lt near = omega arith
+
+lower_near : (u v n : ℕ) → u < v → u - n + (n - u) ≤ v - n + (n - v) → 2 * n ≤ u + v
+lower_near u v n lt near = omega arith
+
+half_way : (u v n : ℕ) → u < v → 2 * n ≡ u + v → u - n + (n - u) ≡ v - n + (n - v)
+half_way u v n lt tie = omega arith
+
+-- a number between them is nearer
+between_near : (u w v n : ℕ) → u < w → w < v → 2 * n ≡ u + v → w - n + (n - w) < v - n + (n - v)
+between_near u w v n less more tie = omega arith
+
+two_apart : (b c : ℕ) → c < b → b % 2 ≡ 0 → c % 2 ≡ 0 → c + 1 < b
+two_apart b c lt even other = omega arith
+
+pub nearest_never_falls : (b c m n : ℕ) → IsNearest b m → IsNearest c n → m ≤ n → b ≤ c
+nearest_never_falls b c m n is other le = elim (cases_lt c b) [
+  | inl lt ↦
+      let u : ℕ = value_of c in
+      let v : ℕ = value_of b in
+      let less : u < v = value_rises c b lt in
+      let low : u + v ≤ 2 * (m * 2 ^ 1043) = upper_near u v (m * 2 ^ 1043) less (is.nearest c other.is_finite) in
+      let high : 2 * (n * 2 ^ 1043) ≤ u + v = lower_near u v (n * 2 ^ 1043) less (other.nearest b is.is_finite) in
+      let tie : 2 * (m * 2 ^ 1043) ≡ u + v = omega (arith, low, high, le) in
+      let same : 2 * (n * 2 ^ 1043) ≡ u + v = omega (arith, low, high, le) in
+      let even : b % 2 ≡ 0 = is.even c other.is_finite (omega (arith, lt)) (half_way u v (m * 2 ^ 1043) less tie) in
+      let also : c % 2 ≡ 0 = other.even b is.is_finite (omega (arith, lt)) (sym (half_way u v (n * 2 ^ 1043) less same)) in
+      let apart : c + 1 < b = two_apart b c lt even also in
+      let finite : IsFinite (c + 1) = omega (arith, apart, is.is_finite) in
+      absurd (omega (arith, is.nearest (c + 1) finite, between_near u (value_of (c + 1)) v (m * 2 ^ 1043) (value_rises c (c + 1) (omega arith)) (value_rises (c + 1) b apart) tie))
+  | inr more ↦ more
+]
+
+pub doubles_never_fall : DoublesNeverFall
+doubles_never_fall b c (Finite m) (Finite n) is other le = nearest_never_falls b c m n is other le
+doubles_never_fall b c (Finite m) Infinite is other le = omega (arith, is.is_finite, other)
+doubles_never_fall b c Infinite (Finite n) is other le = absurd le
+doubles_never_fall b c Infinite Infinite is other le = omega (arith, is, other)

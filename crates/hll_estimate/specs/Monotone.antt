@@ -6,6 +6,7 @@ use Rattle.hll_base.specs.Join.{join}
 use Rattle.hll_kernels.specs.Packed.{AreRegisters, zeros, units}
 use Rattle.hll_estimate.specs.declared.estimate.Estimate.{Estimate}
 use Rattle.hll_estimate.specs.declared.estimate.Estimate.TheVariants.{Finite, Infinite}
+use Rattle.hll_estimate.specs.Double.{IsDoubleOf}
 use Rattle.hll_estimate.specs.FixedPoint.{fixed_point_estimate}
 
 -- the estimate of registers
@@ -32,3 +33,8 @@ pub record IsAtLeastParts (k : ℕ) (R Q : List ℕ) : Type 0 where
 
 abbrev pub UnionNeverBelowParts : Type 0
 UnionNeverBelowParts = (k : ℕ) (R Q : List ℕ) → 4 ≤ k → k ≤ 21 → AreRegisters k R → AreRegisters k Q → IsAtLeastParts k R Q
+
+-- the nearest binary64 number of an estimate that is at least another is at least the other's: so are its bits, since the bits of
+-- a number that isn't negative rise with it
+abbrev pub DoublesNeverFall : Type 0
+DoublesNeverFall = (bits more : ℕ) (x y : Estimate) → IsDoubleOf bits x → IsDoubleOf more y → IsAtMost x y → bits ≤ more
