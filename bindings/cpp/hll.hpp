@@ -6,7 +6,7 @@
 //     monday.update(42);
 //     std::vector<uint8_t> image = monday.serialize();         // for a file, or a column of a table
 //
-//     hll::union_ week(12);                                    // merges sketches at an lg_k of at most 12
+//     hll::union_ week;                                        // merges sketches of one lg_k; union_(12) those of any
 //     week.update(monday);
 //     week.update_image(image.data(), image.size());
 //     std::cout << week.estimate() << " distinct values\n";

@@ -186,7 +186,10 @@ try_example() {
     cmp "$tests/out.hll" "$tests/both.hll" || return 1
     grep '^2 distinct values' "$tests/said" || return 1
     ! "$program" "$tests/out.hll" "$tests/one.hll" "$tests/none.hll" 2>"$tests/said" || return 1
-    grep 'none.hll: family$' "$tests/said" || return 1
+    grep 'none.hll: The family byte is not 7\.$' "$tests/said" || return 1
+    printf '\002\001\007\012\003\010\001\010\007\000\000\010' >"$tests/coarse.hll"
+    ! "$program" "$tests/out.hll" "$tests/one.hll" "$tests/coarse.hll" 2>"$tests/said" || return 1
+    grep 'coarse.hll: The sketches have different lg_k' "$tests/said" || return 1
     ! "$program" 2>/dev/null
 }
 
