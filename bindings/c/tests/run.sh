@@ -242,7 +242,7 @@ test_other_build() {
 # Copies what a build of the library needs into a folder that is there.
 copy_sources() {
     mkdir -p "$1/bindings/c" "$1/bindings/cpp" "$1/examples" || return 1
-    cp -R "$top/prebuilt" "$1" && cp Makefile ./*.[ch] ./*.sh hll.map hll.pc.in "$1/bindings/c" && cp ../cpp/hll.hpp "$1/bindings/cpp" &&
+    cp -R "$top/prebuilt" "$1" && cp -R Makefile ./*.[ch] ./*.sh hll.map hll.pc.in cmake "$1/bindings/c" && cp ../cpp/*.hpp "$1/bindings/cpp" &&
         cp "$top/examples/merge.c" "$1/examples" || return 1
     (cd "$top" && tar -cf - --exclude=out --exclude=must-fail crates crates.txt HANDLES scripts/prebuilt.sh scripts/prebuilt.mk scripts/installable.sh) |
         tar -xf - -C "$1"
