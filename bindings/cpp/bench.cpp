@@ -258,6 +258,6 @@ int main()
     time_reads("registers", 20000);
     for (const hll::width width : {hll::width::hll_8, hll::width::hll_6, hll::width::hll_4})
         time_unions(20480, width);
-    time_unions(20, 8);
-    time_unions(300, 8);
+    time_unions(20, hll::width::hll_8);
+    time_unions(300, hll::width::hll_8);
 }
