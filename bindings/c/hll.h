@@ -94,13 +94,15 @@
  *       unchanged, for all inputs of a caller who ensures the above.
  *     - If an image is merged into registers that are not all 0, and these are written as an image, the result is the union of
  *       the registers and the image, with the estimator fields set.
- *     - What a state means after a merge (hll_state_join), for states whose registers, if they have registers, are not all
- *       0. Calls leave only such states, but that is proved of none.
- *     - The estimate from registers (of images, registers, histograms and states): it is the double nearest to a number that
- *       never falls if a register rises. That number differs by at most one part in 2^40 plus 2^-32 from the greater of the
- *       number of registers above 0 and the value of the formula in docs/NUMBERS.md.
+ *     - What a state means after a merge (hll_state_join), for states that calls of this library made. Registers that other
+ *       code set to 0 are an exception. No call leaves a state whose registers are all 0.
+ *     - The estimate from registers (of images, registers, histograms and states): it never falls if a register rises. It is
+ *       the double nearest to a number that differs by at most one part in 2^40 plus 2^-32 from the greater of the number of
+ *       registers above 0 and the value of the formula in docs/NUMBERS.md.
+ *     - The sketch of a new state into which hll_state_join merged images under the lg_max_k that it was made with is the one of
+ *       which hll_images_union writes the image, for the same images and lg_max_k.
  *     That the order, repetition and grouping of canonical images under one lg_max_k make no difference follows from laws that
- *     are proved for sketches (docs/PROVED.md, "The headline"). No clause of a call says it.
+ *     are proved for these unions (docs/PROVED.md, "The headline").
  *     Not proved, but tested: bounds, estimates from coupons, hll_hip_estimate, hll_version, the division of a state's room
  *     by four, and what this header defines itself. Nothing is proved of time, threads, NULL and other libraries. Of memory it
  *     is proved only for which images an allocation may fail.
@@ -392,8 +394,9 @@ hll_status hll_registers_image(const uint8_t *registers, size_t count, unsigned 
  *
  * (A program also checks the statuses, and that malloc and realloc don't return NULL.)
  *
- * On HLL_BUFFER the sketch is unchanged, and *size bytes are enough for the same call. *size is one and a half times what
- * is needed, and at most HLL_STATE_MOST, so a loop reallocates only a few times. The bytes may be moved, and need no alignment.
+ * On HLL_BUFFER the sketch is unchanged, and *size bytes are enough for the same call. For coupons they are enough for half as
+ * many again and eight more, for registers they are exactly what is needed, and they are at most HLL_STATE_MOST. So a loop
+ * reallocates only a few times. The bytes may be moved, and need no alignment.
  * They are the same on processors of either byte order, but may change with the version of the library: store images in
  * files and columns, not states.
  *
@@ -403,7 +406,7 @@ hll_status hll_registers_image(const uint8_t *registers, size_t count, unsigned 
  * is above 63, calls that read it return HLL_REGISTER.
  *
  * A state takes 40 bytes, and four for each coupon. It takes more if values repeat, because a repeated coupon stays until the
- * coupons are sorted. Close to registers it takes HLL_STATE_MOST, because the registers are made next to the coupons.
+ * coupons are sorted. Before a call returns HLL_BUFFER it sorts them, unless at most a quarter of the coupons is unsorted. Close to registers it takes HLL_STATE_MOST, because the registers are made next to the coupons.
  */
 
 /* The size of a new state, in bytes. */
@@ -450,18 +453,18 @@ hll_status hll_state_add_coupons(void *state, size_t room, size_t *size, const u
 hll_status hll_state_join(unsigned lg_max_k, void *state, size_t room, size_t *size, const uint8_t *image, size_t len);
 
 /* Merges the sketch of another state into a state, as hll_state_join does with an image. The bytes of the other state may
- * change, but not its sketch. The two states must not overlap.
+ * change if it has coupons, but not its sketch. The two states must not overlap.
  * Returns HLL_OK, HLL_REGISTER, HLL_ARGUMENT, HLL_BUFFER or HLL_OTHER_LG_K. Allocates nothing. */
 hll_status hll_state_join_state(unsigned lg_max_k, void *state, size_t room, size_t *size, void *other,
                                 size_t other_room);
 
-/* Writes the image of a state at this width. The bytes of the state may change, because coupons are sorted, but not its
- * sketch.
+/* Writes the image of a state at this width. The bytes of the state may change if it has coupons, because these are sorted, but
+ * not its sketch.
  * Returns HLL_OK, HLL_REGISTER, HLL_ARGUMENT, HLL_MEMORY or HLL_BUFFER (*size is the size of the image). Allocates the image,
  * and at 4 and 6 bits a copy of registers. */
 hll_status hll_state_image(void *state, size_t room, unsigned width, uint8_t *out, size_t out_room, size_t *size);
 
-/* Estimates from a state, as hll_estimate does. The bytes of the state may change, but not its sketch.
+/* Estimates from a state, as hll_estimate does. The bytes of the state may change if it has coupons, but not its sketch.
  * Returns HLL_OK, HLL_REGISTER or HLL_ARGUMENT. Allocates nothing. */
 hll_status hll_state_estimate(void *state, size_t room, hll_estimation *estimation);
 

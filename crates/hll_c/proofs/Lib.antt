@@ -9,4 +9,6 @@ pub mod MaxValues
 pub mod Powers
 pub mod States
 pub mod Strings
+pub mod Unions
+pub mod Whole
 pub mod Widths

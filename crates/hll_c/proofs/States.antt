@@ -39,6 +39,7 @@ use Rattle.hll_c.proofs.Batches.{ends_here, strings_here, strings_end, coupons_f
 pub record AddsLeft (first : Header) (first_body : List (List ℕ)) (h : Header) (body : List (List ℕ)) (cs : List ℕ) (i : ℕ) : Type 0 where
   pub within : IsWithin h (length body)
   pub room : HasRoom h (length cs - i) (length body)
+  pub widths : h.widths ≡ first.widths
   pub same : add_in_turn (sketch_in h body) (drop i cs) ≡ add_in_turn (sketch_in first first_body) cs
 
 pub room_for_one : (h : Header) (n i room : ℕ) → i < n → HasRoom h (n - i) room → HasRoom h ((n - (i + 1)) + 1) room
@@ -46,8 +47,9 @@ room_for_one h n i room inside has = subst (λ m. HasRoom h m room) (let e : n -
 
 pub pushed : (first : Header) (first_body : List (List ℕ)) (h g : Header) (body new : List (List ℕ)) (cs : List ℕ) (i d c : ℕ) → i < length cs → get_or cs i d ≡ c
     → AddsLeft first first_body h body cs i → length new ≡ length body → IsWithin g (length body) → ((n : ℕ) → HasRoom h (n + 1) (length body) → HasRoom g n (length body))
-    → sketch_in g new ≡ add (sketch_in h body) (set_of (c ∷ [])) → AddsLeft first first_body g new cs (i + 1)
-pushed first first_body h g body new cs i d c inside is left size within room made = record {
+    → sketch_in g new ≡ add (sketch_in h body) (set_of (c ∷ [])) → g.widths ≡ h.widths → AddsLeft first first_body g new cs (i + 1)
+pushed first first_body h g body new cs i d c inside is left size within room made widths = record {
+  widths = widths ∙ left.widths;
   within = subst (IsWithin g) (sym size) within;
   room = subst (HasRoom g (length cs - (i + 1))) (sym size) (room (length cs - (i + 1)) (room_for_one h (length cs) i (length body) inside left.room));
   same = ap (λ x. add_in_turn x (drop (i + 1) cs)) (made ∙ ap (λ c. add (sketch_in h body) (set_of (c ∷ []))) (sym is))
@@ -63,13 +65,15 @@ pub record AddsStrings (first : Header) (first_body : List (List ℕ)) (h : Head
   pub are : AreEndsFrom start (length values) (drop i ends)
   pub within : IsWithin h (length body)
   pub room : HasRoom h (length ends - i) (length body)
+  pub widths : h.widths ≡ first.widths
   pub same : add_in_turn (sketch_in h body) (coupons_from start values (drop i ends)) ≡ add_in_turn (sketch_in first first_body) (coupons_from 0 values ends)
 
 pub string_pushed : (first : Header) (first_body : List (List ℕ)) (h g : Header) (body new : List (List ℕ)) (values ends : List ℕ) (start i d c : ℕ) → i < length ends
     → coupon_of_bytes (take (get_or ends i d - start) (drop start values)) ≡ c
     → AddsStrings first first_body h body values ends start i → length new ≡ length body → IsWithin g (length body) → ((n : ℕ) → HasRoom h (n + 1) (length body) → HasRoom g n (length body))
-    → sketch_in g new ≡ add (sketch_in h body) (set_of (c ∷ [])) → AddsStrings first first_body g new values ends (get_or ends i d) (i + 1)
-string_pushed first first_body h g body new values ends start i d c inside is left size within room made = record {
+    → sketch_in g new ≡ add (sketch_in h body) (set_of (c ∷ [])) → g.widths ≡ h.widths → AddsStrings first first_body g new values ends (get_or ends i d) (i + 1)
+string_pushed first first_body h g body new values ends start i d c inside is left size within room made widths = record {
+  widths = widths ∙ left.widths;
   are = (ends_here (length values) ends i d inside start left.are).2;
   within = subst (IsWithin g) (sym size) within;
   room = subst (HasRoom g (length ends - (i + 1))) (sym size) (room (length ends - (i + 1)) (room_for_one h (length ends) i (length body) inside left.room));

@@ -7,3 +7,4 @@ pub mod Estimates
 pub mod Info
 pub mod States
 pub mod Steps
+pub mod Unions

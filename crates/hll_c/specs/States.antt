@@ -11,7 +11,7 @@ use Rattle.hll_sketch.specs.Laws.{add_in_turn}
 use Rattle.hll_sketch.specs.Value.{Sketch, IsLgK, IsLegal, empty_sketch}
 use Rattle.hll_state.specs.Counter.{sketch_in}
 use Rattle.hll_state.specs.Joined.{IsJoined}
-use Rattle.hll_state.specs.Memory.{HasHeader, IsState, IsStateOf, OfState, HasRoomIn, AreEnough}
+use Rattle.hll_state.specs.Memory.{HasHeader, IsState, IsStateOf, OfState, HasWidths, HasRoomIn, AreEnough}
 use Rattle.hll_state.specs.Merged.{bit_of}
 use Rattle.hll_state.specs.declared.header.Header.{Header}
 use Rattle.hll_state.specs.declared.join.Joined.{Joined}
@@ -23,9 +23,10 @@ use Rattle.hll_c.specs.declared.estimate.HllEstimate.{HllEstimate}
 
 -- ---- a new state
 
--- the state of an empty sketch with a width of 8 bits; or there are too few elements; or the lg_k is out of range
+-- the state of an empty sketch with a width of 8 bits, which records no widths; or there are too few elements; or the lg_k is out
+-- of range
 pub data MakesState (lg_k : ℕ) (old new : List (List ℕ)) : ℕ → Type 0 where
-  made : IsLgK lg_k → IsStateOf new (empty_sketch lg_k Hll8) → MakesState lg_k old new ok_code
+  made : IsLgK lg_k → IsStateOf new (empty_sketch lg_k Hll8) → HasWidths new 0 → MakesState lg_k old new ok_code
   few_elements : IsLgK lg_k → length old < 10 → new ≡ old → MakesState lg_k old new buffer_code
   no_lg_k : (IsLgK lg_k → ⊥) → new ≡ old → MakesState lg_k old new (number_of Argument)
 

@@ -26,7 +26,9 @@ ghost use Rattle.hll_c.specs.Calls.{AreNewArguments, IsEmptyAt, IsMadeOf, IsFold
 ghost use Rattle.hll_c.specs.Estimates.{SaysEstimate, SaysEstimateOfBytes, SaysEstimateOfCounts, RefusesCounts};
 ghost use Rattle.hll_c.specs.Info.{SaysInfo, SaysHistogram};
 ghost use Rattle.hll_c.specs.States.{MakesState, AddsToState, IsOfState, SaysEstimateOfState, RefusesEstimateOfState, RefusesState, JoinsImage, JoinsState};
-ghost use Rattle.hll_state.specs.Memory.{IsOnlyRead};
+ghost use Rattle.hll_state.specs.Memory.{OfState, IsOnlyRead, KeepsWidths};
+ghost use Rattle.hll_state.specs.Whole.{IsWhole, LeavesWhole};
+ghost use Rattle.hll_c.specs.Unions.{IsStateOfUnion, ExtendsUnionByImage, ExtendsUnionByState};
 ghost use Rattle.hll_c.specs.declared.estimate.HllEstimate.{HllEstimate};
 ghost use Rattle.hll_c.specs.declared.info.HllInfo.{HllInfo};
 ghost use Rattle.hll_c.specs.declared.info.HllHistogram.{HllHistogram};
@@ -520,7 +522,9 @@ pub extern "C" fn hll_coupons_ends32(values: &[u8], offsets: &[u32], coupons: &m
 /// Returns `Argument` if `lg_k` is out of range, or 14 if there are fewer than ten elements. Allocates nothing.
 #[unsafe(no_mangle)]
 pub extern "C" fn hll_state_new(lg_k: u32, state: &mut [[u8; 4]]) -> u8
-    ensures { MakesState lg_k state.old state.new result }
+    ensures made { MakesState lg_k state.old state.new result }
+    ensures left { result ≡ 0 → OfState state.new IsWhole }
+    ensures union { result ≡ 0 → IsStateOfUnion lg_k [] state.new }
 {
     state::new(lg_k, state)
 }
@@ -537,7 +541,9 @@ pub extern "C" fn hll_state_add(
     values: &[u8],
     ends: &[usize],
 ) -> u8
-    ensures { AddsToState (AreEnds (length values.now) ends.now) (map coupon_of_bytes (strings values.now ends.now)) state.old state.new size.old size.new result }
+    ensures added { AddsToState (AreEnds (length values.now) ends.now) (map coupon_of_bytes (strings values.now ends.now)) state.old state.new size.old size.new result }
+    ensures widths { KeepsWidths state.old state.new }
+    ensures left { LeavesWhole state.old state.new }
 {
     state::add(state, values, ends, size)
 }
@@ -545,7 +551,9 @@ pub extern "C" fn hll_state_add(
 /// Adds one value to a state, as `hll_state_add` does.
 #[unsafe(no_mangle)]
 pub extern "C" fn hll_state_add_value(state: &mut [[u8; 4]], size: &mut usize, value: &[u8]) -> u8
-    ensures { AddsToState (Unit {0}) (coupon_of_bytes value.now ∷ []) state.old state.new size.old size.new result }
+    ensures added { AddsToState (Unit {0}) (coupon_of_bytes value.now ∷ []) state.old state.new size.old size.new result }
+    ensures widths { KeepsWidths state.old state.new }
+    ensures left { LeavesWhole state.old state.new }
 {
     state::add_value(state, value, size)
 }
@@ -559,7 +567,9 @@ pub extern "C" fn hll_state_add_coupons(
     size: &mut usize,
     coupons: &[u32],
 ) -> u8
-    ensures { AddsToState (HaveValues coupons.now) coupons.now state.old state.new size.old size.new result }
+    ensures added { AddsToState (HaveValues coupons.now) coupons.now state.old state.new size.old size.new result }
+    ensures widths { KeepsWidths state.old state.new }
+    ensures left { LeavesWhole state.old state.new }
 {
     state::add_coupons(state, coupons, size)
 }
@@ -581,7 +591,9 @@ pub extern "C" fn hll_state_join(
     size: &mut usize,
     image: &[u8],
 ) -> u8
-    ensures { JoinsImage lg_max_k image.now state.old state.new size.old size.new result }
+    ensures joined { JoinsImage lg_max_k image.now state.old state.new size.old size.new result }
+    ensures left { LeavesWhole state.old state.new }
+    ensures union { result ≡ 0 → ExtendsUnionByImage lg_max_k image.now state.old state.new }
 {
     join::join_image(alloc, lg_max_k, state, size, image)
 }
@@ -589,7 +601,7 @@ pub extern "C" fn hll_state_join(
 /// Merges the sketch of another state into a state, as `hll_state_join` merges an image.
 ///
 /// Returns `Register` if a register of the other state is above 63, which no call leaves there. The bytes of the other state
-/// may change, but not its sketch. Allocates nothing.
+/// may change if it has coupons, but not its sketch. Allocates nothing.
 #[unsafe(no_mangle)]
 pub extern "C" fn hll_state_join_state(
     lg_max_k: u32,
@@ -598,6 +610,8 @@ pub extern "C" fn hll_state_join_state(
     other: &mut [[u8; 4]],
 ) -> u8
     ensures joined { JoinsState lg_max_k other.old state.old state.new size.old size.new result }
+    ensures left { OfState other.old IsWhole → LeavesWhole state.old state.new }
+    ensures union { result ≡ 0 → ExtendsUnionByState lg_max_k other.old state.old state.new }
     ensures kept { IsOnlyRead other.old other.new }
 {
     join::join_state(lg_max_k, state, size, other)
@@ -607,8 +621,8 @@ pub extern "C" fn hll_state_join_state(
 /// cleared.
 ///
 /// Returns `Argument` if `width` is not 4, 6 or 8 or the elements are not a state, `Register` if a register is above 63, which
-/// no call leaves there, or `Memory`. The bytes of the state may change, but not its sketch. Allocates the written image, and
-/// for registers of 4 and 6 bits also their copy in a sketch.
+/// no call leaves there, or `Memory`. The bytes of the state may change if it has coupons, but not its sketch. Allocates
+/// the written image, and for registers of 4 and 6 bits also their copy in a sketch.
 #[unsafe(no_mangle)]
 pub extern "C" fn hll_state_image(
     alloc: Global,
@@ -626,7 +640,7 @@ pub extern "C" fn hll_state_image(
 /// Writes the estimate of the sketch of a state into `estimate`, as `hll_estimate` does for an image.
 ///
 /// Returns `Argument` if the elements are not a state, or `Register` if a register is above 63. The bytes of the state may
-/// change, but not its sketch. Allocates nothing.
+/// change if it has coupons, but not its sketch. Allocates nothing.
 #[unsafe(no_mangle)]
 pub extern "C" fn hll_state_estimate(state: &mut [[u8; 4]], estimate: &mut HllEstimate) -> u8
     ensures estimate { Reports HllEstimate (SaysEstimateOfState state.old) (RefusesEstimateOfState state.old) estimate.old estimate.new result }

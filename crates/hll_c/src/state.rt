@@ -14,7 +14,7 @@ ghost use Rattle.hll_sketch.specs.Value.{IsLgK, IsLegal};
 ghost use Rattle.hll_state.specs.Counter.{sketch_in, content_of, IsResolved, AreResolved};
 ghost use Rattle.hll_state.specs.Header.{IsWithin, AreWithin, HasRoom};
 ghost use Rattle.hll_state.specs.Header as headers;
-ghost use Rattle.hll_state.specs.Memory.{IsOnlyRead};
+ghost use Rattle.hll_state.specs.Memory.{IsOnlyRead, KeepsWidths};
 ghost use Rattle.hll_state.specs.Registers.{values};
 ghost use Rattle.hll_c.specs.Answers.{buffer_code, Answers, IsImageOf, WithFields};
 ghost use Rattle.hll_c.specs.Batches.{AreEnds, strings};
@@ -59,7 +59,8 @@ pub(crate) fn new(lg_k: u32, state: &mut [[u8; 4]]) -> u8
 
 /// Adds the coupons of byte strings.
 pub(crate) fn add(state: &mut [[u8; 4]], values: &[u8], ends: &[usize], size: &mut usize) -> u8
-    ensures { AddsToState (AreEnds (length values.now) ends.now) (map coupon_of_bytes (strings values.now ends.now)) state.old state.new size.old size.new result }
+    ensures added { AddsToState (AreEnds (length values.now) ends.now) (map coupon_of_bytes (strings values.now ends.now)) state.old state.new size.old size.new result }
+    ensures widths { KeepsWidths state.old state.new }
 {
     if !are_ends(ends, values.len()) {
         return Reason::Argument.number();
@@ -92,6 +93,7 @@ fn push_values(header: &mut Header, body: &mut [[u8; 4]], values: &[u8], ends: &
     requires ends { AreEnds (length values.now) ends.now }
     ensures within { IsWithin header.new (length body.old) }
     ensures added { sketch_in header.new body.new ≡ add_in_turn (sketch_in header.old body.old) (map coupon_of_bytes (strings values.now ends.now)) }
+    ensures widths { header.new.widths ≡ header.old.widths }
 {
     let mut start = 0;
     for end in ends {
@@ -102,7 +104,8 @@ fn push_values(header: &mut Header, body: &mut [[u8; 4]], values: &[u8], ends: &
 
 /// Adds raw coupons.
 pub(crate) fn add_coupons(state: &mut [[u8; 4]], coupons: &[u32], size: &mut usize) -> u8
-    ensures { AddsToState (HaveValues coupons.now) coupons.now state.old state.new size.old size.new result }
+    ensures added { AddsToState (HaveValues coupons.now) coupons.now state.old state.new size.old size.new result }
+    ensures widths { KeepsWidths state.old state.new }
 {
     if !have_values(coupons) {
         return Reason::Argument.number();
@@ -120,7 +123,8 @@ pub(crate) fn add_coupons(state: &mut [[u8; 4]], coupons: &[u32], size: &mut usi
 
 /// Adds the coupon of a byte string.
 pub(crate) fn add_value(state: &mut [[u8; 4]], value: &[u8], size: &mut usize) -> u8
-    ensures { AddsToState (Unit {0}) (coupon_of_bytes value.now ∷ []) state.old state.new size.old size.new result }
+    ensures added { AddsToState (Unit {0}) (coupon_of_bytes value.now ∷ []) state.old state.new size.old size.new result }
+    ensures widths { KeepsWidths state.old state.new }
 {
     let raw = Coupon::from_bytes(value).raw();
     if has_raised(state, raw) {
@@ -143,6 +147,7 @@ fn push_coupons(header: &mut Header, body: &mut [[u8; 4]], coupons: &[u32])
     requires room { HasRoom header.old (length coupons.now) (length body.old) }
     ensures within { IsWithin header.new (length body.old) }
     ensures added { sketch_in header.new body.new ≡ add_in_turn (sketch_in header.old body.old) coupons.now }
+    ensures widths { header.new.widths ≡ header.old.widths }
 {
     for raw in coupons {
         header.push(body, *raw);

@@ -15,10 +15,11 @@ use Rattle.hll_sketch.proofs.Emptiness.{listed-none}
 use Rattle.hll_sketch.specs.Adding.{content_for}
 use Rattle.hll_sketch.specs.Layout.{IsSize}
 use Rattle.hll_sketch.specs.Stage.{stage}
-use Rattle.hll_sketch.specs.Value.{Sketch, IsLgK, IsTableFor, in_registers, pairs_in}
+use Rattle.hll_sketch.specs.Value.{Sketch, IsLgK, IsTableFor, in_registers, is_empty, pairs_in}
 use Rattle.hll_state.specs.Counter.{sketch_in, content_of, content_of_coupons, AreResolved}
 use Rattle.hll_state.specs.CouponRun.{members, raws}
-use Rattle.hll_state.specs.Header.{new_header, are_few, greatest_size, elements_for, most_used, most_elements, AreWithin, IsWithin, HasRoom, HasRoomFor}
+use Rattle.hll_state.specs.Header.{new_header, are_few, greatest_size, elements_for, most_used, most_elements, AreWithin, IsHeldWithin, IsWithin, HasRoom, HasRoomFor}
+use Rattle.hll_state.specs.Merged.{HasSomeRegister, is_unused}
 use Rattle.hll_state.specs.declared.header.CouponTable.{CouponTable}
 use Rattle.hll_state.specs.declared.header.Held.{Held}
 use Rattle.hll_state.specs.declared.header.Held.TheVariants.{Coupons, Registers}
@@ -94,6 +95,15 @@ none_in_use k c body within some = of c.added refl
     of true e = staged (stage k c.lg_size (len S)) refl (λ t. ap (λ b. nat_eq (len (pairs_in (content_of_coupons k (record c { added = b }) S))) 0) (sym e) ∙ some (ap (λ b. in_registers (content_of_coupons k (record c { added = b }) S)) e ∙ t))
         ∙ ap (λ b. nat_eq (len (pairs_in (content_of_coupons k (record c { added = b }) S))) 0) (sym e)
     of false e = same ∙ ap (λ b. nat_eq (len (pairs_in (content_of_coupons k (record c { added = b }) S))) 0) (sym e)
+
+-- whatever is held
+pub unused_is_empty : (h : Header) (body : List (List ℕ)) → IsWithin h (length body) → HasSomeRegister (sketch_in h body) → is_unused h.held ≡ is_empty (sketch_in h body)
+unused_is_empty h body within some = of h.held within.held some
+  where
+    of : (held : Held) → IsHeldWithin h.lg_k held (length body) → (in_registers (content_of h.lg_k held body) ≡ true → nat_eq (len (pairs_in (content_of h.lg_k held body))) 0 ≡ false)
+        → is_unused held ≡ nat_eq (len (pairs_in (content_of h.lg_k held body))) 0
+    of (Coupons c) within some = none_in_use h.lg_k c body within some
+    of (Registers s) within some = sym (some refl)
 
 -- what the elements hold doesn't matter if none is in use
 pub same_without : (h : Header) (c : CouponTable) (old new : List (List ℕ)) → h.held ≡ Coupons c → c.run.used ≡ 0 → sketch_in h new ≡ sketch_in h old

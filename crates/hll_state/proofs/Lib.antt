@@ -3,6 +3,7 @@ pub mod Distinct
 pub mod Emptiness
 pub mod Flattened
 pub mod FoldedInPlace
+pub mod Joining
 pub mod MergedImages
 pub mod MergedRegisters
 pub mod MergedStates
@@ -11,6 +12,7 @@ pub mod Merging
 pub mod NibbleParts
 pub mod Numbers
 pub mod Parts
+pub mod Prefixes
 pub mod Promoting
 pub mod Raised
 pub mod Raws
@@ -22,3 +24,4 @@ pub mod States
 pub mod Steps
 pub mod Tables
 pub mod Values
+pub mod Whole

@@ -1,17 +1,18 @@
 -- SPDX-License-Identifier: Apache-2.0
 -- States in elements.
-use Rattle.std.proofs.Common.{◌≡◌, ℕ, ◌-◌, ◌^◌, ◌<◌, ◌≤◌, List, ◌++◌, length, take, drop, take-append-drop, Some, sym, ap, subst, ◌∙◌, arith, refl}
+use Rattle.std.proofs.Common.{◌≡◌, ℕ, ◌-◌, ◌^◌, ◌<◌, ◌≤◌, List, ◌++◌, length, take, drop, take-append-drop, true, Some, sym, ap, subst, ◌∙◌, arith, refl}
 use Rattle.std.specs.Prelude.{max}
 use Rattle.std.proofs.Math.Pow.{pow_mono}
+use Rattle.std.proofs.lemmas.Bool.{true≢false}
 use Rattle.std.proofs.Math.Seq.{drop-append_seam}
 use Rattle.std.proofs.lemmas.List.{length-append, length-take-le}
 use Rattle.std.proofs.lemmas.List.{length-drop, take_all, drop_all, append-nil}
 use borrow.Rule.Slice.PartMut.{mid_of, put_mid}
 use Rattle.hll_sketch.specs.Value.{Sketch, IsLegal, IsLegalContent}
-use Rattle.hll_state.specs.Counter.{sketch_in, content_of}
-use Rattle.hll_state.specs.Header.{IsWithin, HasRoom, most_used}
+use Rattle.hll_state.specs.Counter.{sketch_in, content_of, IsHeldResolved}
+use Rattle.hll_state.specs.Header.{has_registers, IsWithin, HasRoom, HasShortTail, most_used}
 use Rattle.hll_state.specs.Joined.{AreEnoughToMerge}
-use Rattle.hll_state.specs.Memory.{HasHeader, IsStateOf, OfState, IsReady, AreEnough}
+use Rattle.hll_state.specs.Memory.{HasHeader, IsStateOf, OfState, HasWidths, KeepsWidths, IsOnlyRead, IsReady, AreEnough}
 use Rattle.hll_state.specs.Merged.{AreHeldRegistersLegal, HasLegalRegisters}
 use Rattle.hll_state.specs.declared.header.Header.{Header}
 use Rattle.hll_state.specs.declared.header.Held.{Held}
@@ -52,6 +53,38 @@ kept old new g h was is same = record {
   is = record { state = record { header = h; has = is }; is = sym same };
 }
 
+-- ---- widths
+
+pub same_widths : (elements : List (List ℕ)) (g : Header) → HasHeader elements g → HasWidths elements g.widths
+same_widths elements g is h has = ap (λ (h : Header). h.widths) (one_header elements h g has is)
+
+-- a header that was written has the widths of the one that was read
+pub keeps : (old new : List (List ℕ)) (g h : Header) → HasHeader old g → HasHeader new h → h.widths ≡ g.widths → KeepsWidths old new
+keeps old new g h was is same x had y has = same_widths new h is y has ∙ same ∙ sym (same_widths old g was x had)
+
+pub keeps_own : (elements : List (List ℕ)) → KeepsWidths elements elements
+keeps_own elements g is = same_widths elements g is
+
+-- elements that aren't written
+pub read_own : (elements : List (List ℕ)) → IsOnlyRead elements elements
+read_own elements = record {
+  kept = λ s. record { sketch = sketch_in s.header (drop 10 elements); was = means elements s.header s.has; is = means elements s.header s.has };
+  widths = keeps_own elements;
+  registers = λ h has in_registers. refl;
+  unchanged = λ none. refl;
+}
+
+-- ---- repeated coupons
+
+-- resolved coupons have no tail
+pub resolved_short : (k : ℕ) (held : Held) (body : List (List ℕ)) → IsHeldResolved k held body → HasShortTail held
+resolved_short k (Coupons c) body resolved = omega (arith, resolved.settled)
+resolved_short k (Registers s) body resolved = tt
+
+pub registers_resolved : (k : ℕ) (held : Held) (body : List (List ℕ)) → has_registers held ≡ true → IsHeldResolved k held body
+registers_resolved k (Coupons c) body is = absurd (true≢false (sym is))
+registers_resolved k (Registers s) body is = tt
+
 -- ---- a state that is ready for n coupons
 
 module _ (n : ℕ) (old new : List (List ℕ)) (h : Header) (ready : IsReady n old new h) (same : length new ≡ length old) where
@@ -91,6 +124,10 @@ module _ (n : ℕ) (old new : List (List ℕ)) (h : Header) (ready : IsReady n o
       let there : 10 ≤ length new = omega (arith, ready.there, same) in
       let is : f ready.means.sketch ≡ sketch_in g (drop 10 final) = ap f (ready.means.is ∙ ap (sketch_in h) (sym (rest_borrowed new))) ∙ sym made ∙ ap (sketch_in g) (sym (rest ∙ rest_written new body there)) in
       record { sketch = ready.means.sketch; was = ready.means.was; is = record { state = record { header = g; has = has }; is = is } }
+
+  -- its widths stay
+  pub closed_widths : (g : Header) (final : List (List ℕ)) → HasHeader final g → g.widths ≡ h.widths → KeepsWidths old final
+  closed_widths g final has kept_widths x had y is = same_widths final g has y is ∙ kept_widths ∙ sym (ready.widths x had)
 
 -- enough elements are fewer than 2^32
 pub enough_fits : (elements : List (List ℕ)) (n len : ℕ) → AreEnough elements n len → len < 2 ^ 32

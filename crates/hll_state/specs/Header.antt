@@ -1,6 +1,6 @@
 -- SPDX-License-Identifier: Apache-2.0
 -- What the first ten elements of a state say, each as a 32-bit number (docs/MODEL.md, "States of a counter").
-use Rattle.std.specs.Prelude.{◌≡◌, ℕ, ◌+◌, ◌-◌, ◌*◌, ◌%◌, ◌^◌, ◌≤◌, ◌<◌, ◌==◌, nat_le, Bool, false, if◌then◌else◌, List, [], ◌∷◌, slice_index, Option, Some, None, max}
+use Rattle.std.specs.Prelude.{◌≡◌, ℕ, ◌+◌, ◌-◌, ◌*◌, ◌%◌, ◌/◌, ◌^◌, ◌≤◌, ◌<◌, ◌==◌, nat_le, Bool, true, false, if◌then◌else◌, List, [], ◌∷◌, slice_index, Option, Some, None, max}
 use Rattle.hll_registers.specs.declared.estimate_state.EstimateState.{EstimateState}
 use Rattle.hll_sketch.specs.Layout.{IsSize}
 use Rattle.hll_sketch.specs.Stage.{can_hold}
@@ -53,6 +53,10 @@ of_coupons c = Coupons c
 
 abbrev pub of_registers : EstimateState → Held
 of_registers s = Registers s
+
+abbrev pub has_registers : Held → Bool
+has_registers (Coupons c) = false
+has_registers (Registers s) = true
 
 -- ---- an empty sketch
 
@@ -108,6 +112,21 @@ HasRoomFor k (Registers s) n room = 2 ^ (k - 2) ≤ room
 -- `room` elements after the header are enough for n more coupons
 abbrev pub HasRoom : Header → ℕ → ℕ → Type 0
 HasRoom h n room = HasRoomFor h.lg_k h.held n room
+
+-- half as many again, and eight more
+abbrev pub half_more : ℕ → ℕ
+half_more n = n + (n / 2 + 8)
+
+-- the number of elements, header included, that is asked for if there is no room for n more coupons: enough for half as many
+-- coupons again and eight more; registers need no more
+abbrev pub len_asked : ℕ → Held → ℕ → ℕ
+len_asked k (Coupons c) n = 10 + elements_for k (half_more (c.run.used + n))
+len_asked k (Registers s) n = 10 + 2 ^ (k - 2)
+
+-- the tail, in which coupons may be repeated, has at most a quarter of the elements in use
+abbrev pub HasShortTail : Held → Type 0
+HasShortTail (Coupons c) = c.run.used ≤ c.run.run + c.run.used / 4
+HasShortTail (Registers s) = Unit {0}
 
 -- fewer elements are in use than may be
 abbrev pub HasElementLeft : ℕ → Held → Type 0

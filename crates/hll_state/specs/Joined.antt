@@ -5,8 +5,8 @@ use Rattle.hll_base.specs.declared.hll_type.HllType.TheVariants.{Hll8}
 use Rattle.hll_sketch.specs.Merging.{merge}
 use Rattle.hll_sketch.specs.Value.{Sketch, IsLgK, is_empty, empty_sketch}
 use Rattle.hll_state.specs.Counter.{sketch_in}
-use Rattle.hll_state.specs.Header.{new_header, most_elements, IsWithin}
-use Rattle.hll_state.specs.Merged.{HasSomeRegister, HasRoomToMerge}
+use Rattle.hll_state.specs.Header.{new_header, most_elements, IsWithin, HasShortTail}
+use Rattle.hll_state.specs.Merged.{HasSomeRegister, HasRoomToMerge, is_unused, len_asked_for}
 use Rattle.hll_state.specs.declared.header.Header.{Header}
 use Rattle.hll_state.specs.declared.join.Joined.{Joined}
 use Rattle.hll_state.specs.declared.join.Joined.TheVariants.{Done, NoRoom, OtherLgK}
@@ -60,18 +60,26 @@ pub record IsMerged (widths : ℕ) (y x : Sketch) (k : ℕ) (new : Header) (z : 
   pub is : HasSomeRegister x → z ≡ merge k x y
   pub widths_are : new.widths ≡ widths
 
--- this number of elements is enough to merge a sketch, and no more than any state of the lg_k needs
+-- this number of elements is asked for and enough to merge a sketch, and no more than any state of the lg_k needs
 pub record AreEnoughToMerge (y : Sketch) (h : Header) (len : ℕ) : Type 0 where
   pub header_fits : 10 ≤ len
   pub lg_k : IsLgK h.lg_k
   pub room : HasRoomToMerge h y (len - 10)
   pub most : len ≤ 10 + most_elements h.lg_k
+  pub asked : len ≡ len_asked_for h y
+
+-- there is not enough room, the sketch and the widths of the state are unchanged, and this number of elements is enough
+pub record LacksRoomToMerge (y : Sketch) (old : Header) (old_body : List (List ℕ)) (new : Header) (new_body : List (List ℕ)) (len : ℕ) : Type 0 where
+  pub kept : sketch_in new new_body ≡ sketch_in old old_body
+  pub widths : new.widths ≡ old.widths
+  pub lacks : HasRoomToMerge old y (length old_body) → ⊥
+  pub enough : AreEnoughToMerge y new len
+  pub short : HasShortTail new.held
 
 -- a sketch is merged; or there is not enough room, and the sketch of the state is unchanged
 abbrev pub MergesInto : ℕ → Sketch → Header → List (List ℕ) → Header → List (List ℕ) → Joined → Type 0
 MergesInto widths y old old_body new new_body Done = IsMerged widths y (sketch_in old old_body) old.lg_k new (sketch_in new new_body)
-MergesInto widths y old old_body new new_body (NoRoom len) =
-    (sketch_in new new_body ≡ sketch_in old old_body) × (new.widths ≡ old.widths) × (HasRoomToMerge old y (length old_body) → ⊥) × AreEnoughToMerge y new len
+MergesInto widths y old old_body new new_body (NoRoom len) = LacksRoomToMerge y old old_body new new_body len
 MergesInto widths y old old_body new new_body OtherLgK = ⊥
 
 -- a sketch is merged into the empty one at its lg_k; or there is not enough room, and the header is unchanged
@@ -82,11 +90,12 @@ Restarts widths y old old_body new new_body OtherLgK = ⊥
 
 -- ---- what `Header::join` gives
 
--- the sketches are merged, of the same lg_k or under a bound
+-- the sketches are merged, of the same lg_k or under a bound; for the widths, the first is empty if no element is in use
 pub record AreJoined (bounded : Bool) (others : ℕ) (y x : Sketch) (old new : Header) (z : Sketch) : Type 0 where
   pub accepted : HasSomeRegister x → is_refused bounded x y ≡ false
   pub is : HasSomeRegister x → z ≡ joined bounded x y
-  pub widths : HasSomeRegister x → new.widths ≡ widths_after old.widths others (is_empty x) (is_empty y)
+  pub empty : HasSomeRegister x → is_unused old.held ≡ is_empty x
+  pub widths : new.widths ≡ widths_after old.widths others (is_unused old.held) (is_empty y)
 
 -- there is not enough room, the sketch of the state is unchanged, and this number of elements is enough
 pub record LacksRoomToJoin (bounded : Bool) (y x : Sketch) (old new : Header) (z : Sketch) (room len : ℕ) : Type 0 where
@@ -95,6 +104,7 @@ pub record LacksRoomToJoin (bounded : Bool) (y x : Sketch) (old new : Header) (z
   pub accepted : HasSomeRegister x → is_refused bounded x y ≡ false
   pub lacks : HasRoomToMerge (started_header bounded old y) y room → ⊥
   pub enough : AreEnoughToMerge y (started_header bounded new y) len
+  pub short : HasShortTail new.held
 
 -- neither is empty, they have different lg_k, and no bound was given; nothing changes
 pub record HasOtherLgK (bounded : Bool) (y x : Sketch) (old : Header) (old_body : List (List ℕ)) (new : Header) (new_body : List (List ℕ)) : Type 0 where

@@ -5,4 +5,6 @@ pub mod Header
 pub mod Joined
 pub mod Memory
 pub mod Merged
+pub mod Prefixes
 pub mod Registers
+pub mod Whole

@@ -1,11 +1,11 @@
 -- SPDX-License-Identifier: Apache-2.0
 -- States in caller-owned memory: a header in the first ten elements, and the coupons or registers after it
 -- (docs/MODEL.md, "States of a counter").
-use Rattle.std.specs.Prelude.{◌≡◌, ℕ, ◌+◌, ◌-◌, ◌≤◌, List, length, drop, Some}
+use Rattle.std.specs.Prelude.{◌≡◌, ℕ, ◌+◌, ◌-◌, ◌≤◌, true, List, length, drop, Some}
 use Rattle.hll_sketch.specs.Value.{Sketch}
 use Rattle.hll_state.specs.Counter.{sketch_in}
 use Rattle.hll_state.specs.CouponRun.{raws}
-use Rattle.hll_state.specs.Header.{header_of, most_elements, IsWithin, HasRoom}
+use Rattle.hll_state.specs.Header.{header_of, has_registers, most_elements, IsWithin, HasRoom, HasShortTail, len_asked}
 use Rattle.hll_state.specs.declared.header.Header.{Header}
 use Rattle.hll_state.specs.declared.memory.Begun.{Begun}
 use Rattle.hll_state.specs.declared.memory.Begun.TheVariants.{NoState, NoRoom, Room}
@@ -36,18 +36,31 @@ pub record OfState (elements : List (List ℕ)) (Is : Sketch → Type 0) : Type 
   pub was : IsStateOf elements sketch
   pub is : Is sketch
 
--- a state is only read, and its sketch is unchanged; elements that are not a state are unchanged
+-- if the elements are a state, it records these widths
+abbrev pub HasWidths : List (List ℕ) → ℕ → Type 0
+HasWidths elements widths = (h : Header) → HasHeader elements h → h.widths ≡ widths
+
+-- a state records the same widths as before
+abbrev pub KeepsWidths : List (List ℕ) → List (List ℕ) → Type 0
+KeepsWidths old new = (h : Header) → HasHeader old h → HasWidths new h.widths
+
+-- a state is only read, and its sketch and widths are unchanged; elements that hold registers or are not a state are unchanged
 pub record IsOnlyRead (old new : List (List ℕ)) : Type 0 where
   pub kept : IsState old → OfState old (IsStateOf new)
+  pub widths : KeepsWidths old new
+  pub registers : (h : Header) → HasHeader old h → has_registers h.held ≡ true → new ≡ old
   pub unchanged : (IsState old → ⊥) → new ≡ old
 
--- this number of elements is enough to add n coupons to a state, and no more than any state of its lg_k needs
+-- this number of elements is asked for; it is enough to add n coupons to a state, and no more than any state of its lg_k needs;
+-- repeated coupons were dropped, unless the tail is short
 pub record AreEnough (elements : List (List ℕ)) (n len : ℕ) : Type 0 where
   pub header : Header
   pub has : HasHeader elements header
   pub header_fits : 10 ≤ len
   pub room : HasRoom header n (len - 10)
   pub most : len ≤ 10 + most_elements header.lg_k
+  pub asked : len ≡ len_asked header.lg_k header.held n
+  pub short : HasShortTail header.held
 
 -- ---- `begin`, which checks for room for n coupons
 
@@ -56,18 +69,20 @@ pub record IsNone (old new : List (List ℕ)) : Type 0 where
   pub none : IsState old → ⊥
   pub same : new ≡ old
 
--- there is not enough room, the sketch is unchanged, and this number of elements is enough
+-- there is not enough room, the sketch and the widths are unchanged, and this number of elements is enough
 pub record LacksRoom (n : ℕ) (old new : List (List ℕ)) (len : ℕ) : Type 0 where
   pub kept : OfState old (IsStateOf new)
+  pub widths : KeepsWidths old new
   pub lacks : HasRoomIn old n (length old) → ⊥
   pub enough : AreEnough new n len
 
--- there is room, and this header with the elements after the first ten has the sketch of the state
+-- there is room, and this header with the elements after the first ten has the sketch and the widths of the state
 pub record IsReady (n : ℕ) (old new : List (List ℕ)) (h : Header) : Type 0 where
   pub there : 10 ≤ length old
   pub within : IsWithin h (length old - 10)
   pub room : HasRoom h n (length old - 10)
   pub means : OfState old (λ x. x ≡ sketch_in h (drop 10 new))
+  pub widths : HasWidths old h.widths
 
 abbrev pub IsBegun : ℕ → List (List ℕ) → List (List ℕ) → Begun → Type 0
 IsBegun n old new NoState = IsNone old new

@@ -1,6 +1,6 @@
 -- SPDX-License-Identifier: Apache-2.0
 -- Sketches that are merged into a state.
-use Rattle.std.specs.Prelude.{◌≡◌, ℕ, ◌+◌, ◌-◌, ◌^◌, ◌≤◌, true, false, List, min, take}
+use Rattle.std.specs.Prelude.{◌≡◌, ℕ, ◌+◌, ◌-◌, ◌^◌, ◌≤◌, ◌==◌, Bool, true, false, List, min, take}
 use Rattle.std.specs.FinSet.{len}
 use Rattle.hll_base.specs.declared.hll_type.HllType.{HllType}
 use Rattle.hll_base.specs.declared.hll_type.HllType.TheVariants.{Hll4, Hll6, Hll8}
@@ -10,7 +10,7 @@ use Rattle.hll_kernels.specs.Packed.{AreRegisters}
 use Rattle.hll_sketch.specs.Value.{Sketch, Content, coupons, registers, in_registers, is_empty}
 use Rattle.hll_state.specs.Counter.{content_of}
 use Rattle.hll_state.specs.CouponRun.{raws}
-use Rattle.hll_state.specs.Header.{HasRoom}
+use Rattle.hll_state.specs.Header.{HasRoom, len_asked}
 use Rattle.hll_state.specs.Registers.{values}
 use Rattle.hll_state.specs.declared.header.Header.{Header}
 use Rattle.hll_state.specs.declared.header.Held.{Held}
@@ -50,6 +50,11 @@ bit_of Hll8 = 4
 
 -- ---- room
 
+-- no element is in use; registers use theirs
+abbrev pub is_unused : Held → Bool
+is_unused (Coupons c) = c.run.used == 0
+is_unused (Registers s) = false
+
 -- the elements in use in addition to registers
 abbrev pub used_in : Held → ℕ
 used_in (Coupons c) = c.run.used
@@ -60,6 +65,15 @@ used_in (Registers s) = 0
 abbrev pub HasRoomForContent : Header → ℕ → Content → ℕ → Type 0
 HasRoomForContent h k (coupons S size) room = HasRoom h (len S) room
 HasRoomForContent h k (registers R state) room = 2 ^ (min h.lg_k k - 2) + used_in h.held ≤ room
+
+abbrev pub len_asked_for_content : Header → ℕ → Content → ℕ
+len_asked_for_content h k (coupons S size) = len_asked h.lg_k h.held (len S)
+len_asked_for_content h k (registers R state) = 10 + (2 ^ (min h.lg_k k - 2) + used_in h.held)
+
+-- the number of elements, header included, that is asked for if there is no room to merge a sketch: as for its coupons; or
+-- exactly what is enough for its registers
+abbrev pub len_asked_for : Header → Sketch → ℕ
+len_asked_for h y = len_asked_for_content h y.lg_k y.content
 
 -- `room` elements after the header are enough to merge a sketch; an empty sketch needs none
 abbrev pub HasRoomToMerge : Header → Sketch → ℕ → Type 0

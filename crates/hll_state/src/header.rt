@@ -157,6 +157,17 @@ impl Header {
             && self.held.is_within(self.lg_k, room)
     }
 
+    /// Returns whether the elements after the header hold registers.
+    #[inline(always)]
+    pub fn has_registers(&self) -> bool
+        ensures { result ≡ spec.has_registers self.now.held }
+    {
+        match self.held {
+            Held::Coupons(_) => false,
+            Held::Registers(_) => true,
+        }
+    }
+
     /// Returns whether `room` elements after the header are enough for `count` more coupons.
     #[inline(always)]
     pub fn has_room(&self, count: usize, room: usize) -> bool

@@ -9,7 +9,7 @@ ghost use Rattle.hll_state.specs.Header.{IsWithin};
 ghost use Rattle.hll_state.specs.Joined as joined;
 ghost use Rattle.hll_state.specs.Joined.{IsJoined, JoinsEmpty, MergesInto, Restarts};
 ghost use Rattle.hll_state.specs.Merged as merged;
-ghost use Rattle.hll_state.specs.Merged.{HasRoomToMerge, HasSomeRegister};
+ghost use Rattle.hll_state.specs.Merged.{HasRoomToMerge, is_unused};
 
 use crate::header::{HEADER_LEN, Header, Held};
 use hll_base::hll_type::HllType;
@@ -66,7 +66,7 @@ impl Header {
     fn widths_after(&self, widths: u8, other_is_empty: bool) -> u8
         requires ours { self.now.widths < 8 }
         requires widths { widths < 8 }
-        ensures is { (body : List (List ℕ)) → IsWithin self.now (length body) → HasSomeRegister (sketch_in self.now body) → result ≡ joined.widths_after self.now.widths widths (is_empty (sketch_in self.now body)) other_is_empty }
+        ensures is { result ≡ joined.widths_after self.now.widths widths (is_unused self.now.held) other_is_empty }
         ensures within { result < 8 }
     {
         match (self.is_empty(), other_is_empty) {
@@ -136,6 +136,7 @@ impl Header {
     /// Returns a number of elements, header included, in which there is room to merge a sketch.
     fn len_to_merge<A: Allocator>(&self, image: &BorrowedImage<'_, A>) -> usize
         requires { (room : ℕ) × IsWithin self.now room }
+        ensures asked { result ≡ merged.len_asked_for self.now (sketch_of_borrowed image.now) }
         ensures room { HasRoomToMerge self.now (sketch_of_borrowed image.now) (result - 10) }
         ensures least { 10 ≤ result }
         ensures most { result ≤ 10 + spec.most_elements self.now.lg_k }

@@ -7,6 +7,7 @@ mod counter;
 mod elements;
 pub mod header;
 pub mod join;
+pub mod laws;
 pub mod memory;
 mod merge;
 pub mod merge_coupons;

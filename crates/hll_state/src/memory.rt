@@ -5,7 +5,7 @@ ghost use Rattle.hll_sketch.specs.Laws.{add_in_turn};
 ghost use Rattle.hll_sketch.specs.Value.{IsLgK};
 ghost use Rattle.hll_state.specs.Counter.{sketch_in, IsResolved};
 ghost use Rattle.hll_state.specs.Header as spec;
-ghost use Rattle.hll_state.specs.Header.{IsWithin, HasRoom};
+ghost use Rattle.hll_state.specs.Header.{IsWithin, HasRoom, HasShortTail};
 ghost use Rattle.hll_state.specs.declared.header.Header.{Header};
 ghost use Rattle.hll_state.specs.Memory.{HasHeader, IsState, OfState, IsOnlyRead, IsBegun};
 
@@ -82,7 +82,7 @@ pub fn begin(elements: &mut [[u8; 4]], count: usize) -> Begun
 }
 
 /// Makes the sketch of a state ready to be read (see `Header::resolve`), and returns its header. Returns `None` if the elements
-/// are not a state. The bytes may change, but not the sketch.
+/// are not a state. The bytes may change if the state holds coupons, but not the sketch.
 pub fn resolve(elements: &mut [[u8; 4]]) -> Option<Header>
     ensures within { IfSome result (λ h. IsWithin h (length elements.old - 10)) }
     ensures resolved { IfSome result (λ h. IsResolved h (drop 10 elements.new)) }
@@ -92,6 +92,9 @@ pub fn resolve(elements: &mut [[u8; 4]]) -> Option<Header>
     ensures read { IsOnlyRead elements.old elements.new }
 {
     let mut header = open(elements)?;
+    if header.has_registers() {
+        return Some(header);
+    }
     header.resolve(&mut elements[HEADER_LEN..]);
     close(elements, header);
     Some(header)
@@ -107,6 +110,7 @@ impl Header {
         ensures widths { self.new.widths ≡ self.old.widths }
         ensures room { result ≡ true → HasRoom self.new count (length body.old) }
         ensures none { result ≡ false → HasRoom self.old count (length body.old) → ⊥ }
+        ensures short { result ≡ false → HasShortTail self.new.held }
     {
         let room = body.len();
         if self.has_room(count, room) {
@@ -119,18 +123,23 @@ impl Header {
         self.has_room(count, room)
     }
 
-    /// Returns whether the tail has at least a quarter of the elements in use. No result depends on it.
-    fn has_long_tail(&self) -> bool {
+    /// Returns whether the tail has more than a quarter of the elements in use.
+    fn has_long_tail(&self) -> bool
+        ensures { result ≡ false → HasShortTail self.now.held }
+    {
         match self.held {
-            Held::Coupons(coupons) => coupons.run.run <= coupons.run.used / 4 * 3,
+            Held::Coupons(coupons) => {
+                coupons.run.run.saturating_add(coupons.run.used / 4) < coupons.run.used
+            }
             Held::Registers(_) => false,
         }
     }
 
-    /// Returns a number of elements, header included, in which the state has room for `count` more coupons: room for half as
-    /// many again, or as much room as any state of this `lg_k` needs.
+    /// Returns a number of elements, header included, in which the state has room for `count` more coupons, and for half as
+    /// many again and eight; or as much room as any state of this `lg_k` needs.
     pub fn len_for(&self, count: usize) -> usize
         requires lg_k { IsLgK self.now.lg_k }
+        ensures asked { result ≡ spec.len_asked self.now.lg_k self.now.held count }
         ensures room { HasRoom self.now count (result - 10) }
         ensures least { 10 ≤ result }
         ensures most { result ≤ 10 + spec.most_elements self.now.lg_k }
@@ -144,9 +153,10 @@ impl Header {
     }
 }
 
-/// Returns a number of elements that is enough for `count` coupons, and for half as many again if these are few.
+/// Returns a number of elements that is enough for `count` coupons, and for half as many again and eight.
 fn grown_len(lg_k: u8, count: usize) -> usize
     requires { IsLgK lg_k }
+    ensures asked { result ≡ spec.elements_for lg_k (spec.half_more count) }
     ensures enough { spec.elements_for lg_k count ≤ result }
     ensures most { result ≤ spec.most_elements lg_k }
 {

@@ -8,8 +8,8 @@ ghost use Rattle.hll_sketch.specs.Value.{IsTableFor, is_empty};
 ghost use Rattle.hll_state.specs.Counter.{sketch_in};
 ghost use Rattle.hll_state.specs.CouponRun.{raws};
 ghost use Rattle.hll_state.specs.Header as spec;
-ghost use Rattle.hll_state.specs.Header.{IsWithin, HasRoom};
-ghost use Rattle.hll_state.specs.Merged.{table_of, HasSomeRegister};
+ghost use Rattle.hll_state.specs.Header.{IsWithin, HasRoom, HasShortTail};
+ghost use Rattle.hll_state.specs.Merged.{table_of, HasSomeRegister, is_unused};
 
 use crate::elements::copy_to;
 use crate::header::{CouponTable, Header, Held, elements_for};
@@ -41,6 +41,7 @@ impl Header {
         ensures same { result ≡ false → sketch_in self.new body.new ≡ sketch_in self.old body.old }
         ensures widths { self.new.widths ≡ self.old.widths }
         ensures none { result ≡ false → HasRoom self.old (length coupons.now) (length body.old) → ⊥ }
+        ensures short { result ≡ false → HasShortTail self.new.held }
     {
         if self.lg_k == lg_k && self.is_empty() {
             return self.take_coupons(body, lg_size, coupons);
@@ -54,9 +55,11 @@ impl Header {
 
     /// Returns whether no element is in use. Then the sketch of the state is empty, unless it has registers that are all 0.
     pub(crate) fn is_empty(&self) -> bool
+        ensures is { result ≡ is_unused self.now.held }
         ensures empty { (body : List (List ℕ)) → IsWithin self.now (length body) → HasSomeRegister (sketch_in self.now body) → result ≡ is_empty (sketch_in self.now body) }
         ensures room { result ≡ true → (n room : ℕ) → HasRoom self.now n room → spec.elements_for self.now.lg_k n ≤ room }
         ensures none { result ≡ true → (old new : List (List ℕ)) → sketch_in self.now new ≡ sketch_in self.now old }
+        ensures short { result ≡ true → HasShortTail self.now.held }
     {
         match self.held {
             Held::Coupons(coupons) => coupons.run.used == 0,
@@ -73,6 +76,7 @@ impl Header {
         ensures same { result ≡ false → sketch_in self.new body.new ≡ sketch_in self.old body.old }
         ensures widths { self.new.widths ≡ self.old.widths }
         ensures none { result ≡ false → spec.elements_for self.old.lg_k (length coupons.now) ≤ length body.old → ⊥ }
+        ensures unchanged { result ≡ false → self.new ≡ self.old }
     {
         if body.len() < elements_for(self.lg_k, coupons.len()) {
             return false;

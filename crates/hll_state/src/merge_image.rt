@@ -6,7 +6,7 @@ ghost use Rattle.hll_sketch.specs.Layout.{sketch_of};
 ghost use Rattle.hll_sketch.specs.Merging as merging;
 ghost use Rattle.hll_sketch.specs.Value.{is_empty};
 ghost use Rattle.hll_state.specs.Counter.{sketch_in};
-ghost use Rattle.hll_state.specs.Header.{IsWithin};
+ghost use Rattle.hll_state.specs.Header.{IsWithin, HasShortTail};
 ghost use Rattle.hll_state.specs.Merged.{HasSomeRegister, HasRoomForContent, HasRoomToMerge};
 
 use crate::header::Header;
@@ -30,6 +30,7 @@ impl Header {
         ensures same { result ≡ false → sketch_in self.new body.new ≡ sketch_in self.old body.old }
         ensures widths { self.new.widths ≡ self.old.widths }
         ensures none { result ≡ false → HasRoomToMerge self.old (sketch_of_borrowed image.now) (length body.old) → ⊥ }
+        ensures short { result ≡ false → HasShortTail self.new.held }
     {
         match image {
             BorrowedImage::Coupons(coupons) => {
@@ -53,6 +54,7 @@ impl Header {
         ensures widths { self.new.widths ≡ self.old.widths }
         ensures none { let x = sketch_of sketch.now in
             result ≡ false → HasRoomForContent self.old x.lg_k x.content (length body.old) → ⊥ }
+        ensures short { result ≡ false → HasShortTail self.new.held }
     {
         sketch.layout_is_legal();
         let lg_k = sketch.lg_config_k();

@@ -6,7 +6,7 @@ ghost use Rattle.hll_registers.specs.State.{cleared_state};
 ghost use Rattle.hll_sketch.specs.Merging as merging;
 ghost use Rattle.hll_sketch.specs.Value.{pairs_of};
 ghost use Rattle.hll_state.specs.Counter.{sketch_in, IsResolved};
-ghost use Rattle.hll_state.specs.Header.{IsWithin};
+ghost use Rattle.hll_state.specs.Header.{IsWithin, HasShortTail};
 ghost use Rattle.hll_state.specs.Merged.{HasSomeRegister, used_in};
 ghost use Rattle.hll_state.specs.Registers.{values};
 
@@ -29,6 +29,7 @@ impl Header {
         ensures widths { self.new.widths ≡ self.old.widths }
         ensures none { let x = R.stored src.now in
             result ≡ false → 2 ^ (min self.old.lg_k x.lg_k - 2) + used_in self.old.held ≤ length body.old → ⊥ }
+        ensures short { result ≡ false → HasShortTail self.new.held }
     {
         let bound = self.lg_k;
         let is_empty = self.is_empty();

@@ -8,7 +8,7 @@ ghost use Rattle.hll_sketch.specs.Value.{IsTableFor};
 ghost use Rattle.hll_state.specs.Counter.{sketch_in};
 ghost use Rattle.hll_state.specs.CouponRun.{IsRun, members};
 ghost use Rattle.hll_state.specs.Header as spec;
-ghost use Rattle.hll_state.specs.Header.{IsWithin, HasRoom};
+ghost use Rattle.hll_state.specs.Header.{IsWithin, HasRoom, HasShortTail};
 ghost use Rattle.hll_state.specs.Merged.{sketch_of_table, HasSomeRegister};
 
 use crate::header::{CouponTable, Header, Held, elements_for};
@@ -32,6 +32,7 @@ impl Header {
         ensures same { result ≡ false → sketch_in self.new body.new ≡ sketch_in self.old body.old }
         ensures widths { self.new.widths ≡ self.old.widths }
         ensures none { result ≡ false → HasRoom self.old (length (coupons_in table.now.buckets)) (length body.old) → ⊥ }
+        ensures short { result ≡ false → HasShortTail self.new.held }
     {
         if self.lg_k == lg_k && self.is_empty() {
             return self.take_table(body, table);
@@ -52,6 +53,7 @@ impl Header {
         ensures same { result ≡ false → sketch_in self.new body.new ≡ sketch_in self.old body.old }
         ensures widths { self.new.widths ≡ self.old.widths }
         ensures none { result ≡ false → spec.elements_for self.old.lg_k (length (coupons_in table.now.buckets)) ≤ length body.old → ⊥ }
+        ensures unchanged { result ≡ false → self.new ≡ self.old }
     {
         if body.len() < elements_for(self.lg_k, table.len()) {
             return false;

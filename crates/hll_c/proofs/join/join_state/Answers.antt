@@ -6,7 +6,7 @@ use Rattle.hll_sketch.specs.BorrowedImage.{sketch_of_borrowed}
 use Rattle.hll_sketch.specs.Value.{IsLegal}
 use Rattle.hll_state.specs.Counter.{sketch_in, IsResolved}
 use Rattle.hll_state.specs.declared.header.Header.{Header}
-use Rattle.hll_state.proofs.States.{rest_borrowed, legal_registers, read_at}
+use Rattle.hll_state.proofs.States.{rest_borrowed, legal_registers, read_at, read_own}
 use Rattle.hll_c.specs.States.{JoinsSketch, JoinsState, state_read, no_states, register_above}
 use Rattle.hll_c.proofs.join.join_state.Goals as goal
 
@@ -15,10 +15,7 @@ returns-in_default-clause-joined c =
     subst (JoinsState c.args.lg_max_k c.args.other.now c.args.state.now c.args.state.now c.args.size.now c.args.size.now) (sym c.number.ensures) (no_states (λ both. c.in_default.ensures.none both.0) refl refl)
 
 pub returns-in_default-clause-kept : goal.returns-in_default-clause-kept
-returns-in_default-clause-kept c = record {
-  kept = λ s. record { sketch = sketch_in s.header (drop 10 c.args.other.now); was = record { state = s; is = refl }; is = record { state = s; is = refl } };
-  unchanged = λ none. refl;
-}
+returns-in_default-clause-kept c = read_own c.args.other.now
 
 pub returns-in_default-resolve-clause-joined : goal.returns-in_default-resolve-clause-joined
 returns-in_default-resolve-clause-joined c =

@@ -3,16 +3,16 @@ use Rattle.std.proofs.Common.{◌≡◌, length, map, refl, sym, subst, arith}
 use Rattle.hll_coupons.specs.Hashed.{coupon_of_bytes}
 use Rattle.hll_sketch.specs.Laws.{add_in_turn}
 use Rattle.hll_state.specs.Header.{IsWithin}
-use Rattle.hll_state.specs.Memory.{HasRoomIn, AreEnough}
-use Rattle.hll_state.proofs.States.{ready_within, ready_room, written_size, written_within, closed, enough_fits}
+use Rattle.hll_state.specs.Memory.{HasRoomIn, AreEnough, KeepsWidths}
+use Rattle.hll_state.proofs.States.{ready_within, ready_room, written_size, written_within, closed, closed_widths, enough_fits, keeps_own}
 use Rattle.hll_c.specs.Batches.{AreEnds, strings}
 use Rattle.hll_c.specs.States.{AddsToState, added, no_room, not_added}
 use Rattle.hll_c.proofs.Batches.{not_so}
 use Rattle.hll_c.proofs.States.{length-coupons}
 use Rattle.hll_c.proofs.state.add.Goals as goal
 
-pub returns-then-not-are_ends : goal.returns-then-not-are_ends
-returns-then-not-are_ends c =
+pub returns-then-not-are_ends-clause-added : goal.returns-then-not-are_ends-clause-added
+returns-then-not-are_ends-clause-added c =
     subst (AddsToState (AreEnds (length c.args.values.now) c.args.ends.now) (map coupon_of_bytes (strings c.args.values.now c.args.ends.now)) c.args.state.now c.args.state.now c.args.size.now c.args.size.now) (sym c.number.ensures)
     (not_added (λ are. not_so c.are_ends.result (AreEnds (length c.args.values.now) c.args.ends.now) c.if-not-are_ends.true c.are_ends.ensures are.0) refl refl)
 
@@ -35,22 +35,35 @@ close-requires-clause-within c =
     (written_within (length c.args.ends.now) c.args.state.now c.begin.new.elements c.in-Room.header c.in-Room.ensures c.begin.auto.elements c.push_values.new.body c.push_values.auto.body)
     c.push_values.ensures.within
 
-pub returns-in-NoState : goal.returns-in-NoState
-returns-in-NoState c =
+pub returns-in-NoState-clause-added : goal.returns-in-NoState-clause-added
+returns-in-NoState-clause-added c =
     subst (AddsToState (AreEnds (length c.args.values.now) c.args.ends.now) (map coupon_of_bytes (strings c.args.values.now c.args.ends.now)) c.args.state.now c.begin.new.elements c.args.size.now c.args.size.now) (sym c.number-in-NoState.ensures)
     (not_added (λ are. c.in-NoState.ensures.none are.1) c.in-NoState.ensures.same refl)
 
-pub returns-in-NoRoom : goal.returns-in-NoRoom
-returns-in-NoRoom c =
+pub returns-in-NoRoom-clause-added : goal.returns-in-NoRoom-clause-added
+returns-in-NoRoom-clause-added c =
     let count : length c.args.ends.now ≡ length (map coupon_of_bytes (strings c.args.values.now c.args.ends.now)) = sym (length-coupons c.args.values.now c.args.ends.now) in
     subst (AddsToState (AreEnds (length c.args.values.now) c.args.ends.now) (map coupon_of_bytes (strings c.args.values.now c.args.ends.now)) c.args.state.now c.begin.new.elements c.args.size.now c.too_small.new.size) (sym c.too_small.ensures.code)
     (no_room (c.are_ends.ensures.0 c.if-not-are_ends.false) c.in-NoRoom.ensures.kept
     (subst (λ n. HasRoomIn c.args.state.now n (length c.args.state.now) → ⊥) count c.in-NoRoom.ensures.lacks)
     (record { len = c.in-NoRoom.len; bytes_are = c.too_small.ensures.size; enough = subst (λ n. AreEnough c.begin.new.elements n c.in-NoRoom.len) count c.in-NoRoom.ensures.enough }))
 
-pub returns-in-Room : goal.returns-in-Room
-returns-in-Room c =
+pub returns-in-Room-clause-added : goal.returns-in-Room-clause-added
+returns-in-Room-clause-added c =
     added (c.are_ends.ensures.0 c.if-not-are_ends.false)
     (closed (length c.args.ends.now) c.args.state.now c.begin.new.elements c.in-Room.header c.in-Room.ensures c.begin.auto.elements (λ x. add_in_turn x (map coupon_of_bytes (strings c.args.values.now c.args.ends.now)))
     c.push_values.new.header c.push_values.new.body c.close.new.elements c.push_values.ensures.added c.close.ensures.header c.close.ensures.rest)
     refl
+
+pub returns-then-not-are_ends-clause-widths : goal.returns-then-not-are_ends-clause-widths
+returns-then-not-are_ends-clause-widths c = keeps_own c.args.state.now
+
+pub returns-in-NoState-clause-widths : goal.returns-in-NoState-clause-widths
+returns-in-NoState-clause-widths c = subst (KeepsWidths c.args.state.now) (sym c.in-NoState.ensures.same) (keeps_own c.args.state.now)
+
+pub returns-in-NoRoom-clause-widths : goal.returns-in-NoRoom-clause-widths
+returns-in-NoRoom-clause-widths c = c.in-NoRoom.ensures.widths
+
+pub returns-in-Room-clause-widths : goal.returns-in-Room-clause-widths
+returns-in-Room-clause-widths c =
+    closed_widths (length c.args.ends.now) c.args.state.now c.begin.new.elements c.in-Room.header c.in-Room.ensures c.begin.auto.elements c.push_values.new.header c.close.new.elements c.close.ensures.header c.push_values.ensures.widths

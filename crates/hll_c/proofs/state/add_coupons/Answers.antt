@@ -2,14 +2,15 @@
 use Rattle.std.proofs.Common.{length, refl, sym, subst, arith}
 use Rattle.hll_sketch.specs.Laws.{add_in_turn}
 use Rattle.hll_state.specs.Header.{IsWithin}
-use Rattle.hll_state.proofs.States.{ready_within, ready_room, written_size, written_within, closed, enough_fits}
+use Rattle.hll_state.specs.Memory.{KeepsWidths}
+use Rattle.hll_state.proofs.States.{ready_within, ready_room, written_size, written_within, closed, closed_widths, enough_fits, keeps_own}
 use Rattle.hll_c.specs.ByteRegisters.{HaveValues}
 use Rattle.hll_c.specs.States.{AddsToState, added, no_room, not_added}
 use Rattle.hll_c.proofs.Batches.{not_so}
 use Rattle.hll_c.proofs.state.add_coupons.Goals as goal
 
-pub returns-then-not-have_values : goal.returns-then-not-have_values
-returns-then-not-have_values c =
+pub returns-then-not-have_values-clause-added : goal.returns-then-not-have_values-clause-added
+returns-then-not-have_values-clause-added c =
     subst (AddsToState (HaveValues c.args.coupons.now) c.args.coupons.now c.args.state.now c.args.state.now c.args.size.now c.args.size.now) (sym c.number.ensures)
     (not_added (λ are. not_so c.have_values.result (HaveValues c.args.coupons.now) c.if-not-have_values.true c.have_values.ensures are.0) refl refl)
 
@@ -32,20 +33,33 @@ close-requires-clause-within c =
     (written_within (length c.args.coupons.now) c.args.state.now c.begin.new.elements c.in-Room.header c.in-Room.ensures c.begin.auto.elements c.push_coupons.new.body c.push_coupons.auto.body)
     c.push_coupons.ensures.within
 
-pub returns-in-NoState : goal.returns-in-NoState
-returns-in-NoState c =
+pub returns-in-NoState-clause-added : goal.returns-in-NoState-clause-added
+returns-in-NoState-clause-added c =
     subst (AddsToState (HaveValues c.args.coupons.now) c.args.coupons.now c.args.state.now c.begin.new.elements c.args.size.now c.args.size.now) (sym c.number-in-NoState.ensures)
     (not_added (λ are. c.in-NoState.ensures.none are.1) c.in-NoState.ensures.same refl)
 
-pub returns-in-NoRoom : goal.returns-in-NoRoom
-returns-in-NoRoom c =
+pub returns-in-NoRoom-clause-added : goal.returns-in-NoRoom-clause-added
+returns-in-NoRoom-clause-added c =
     subst (AddsToState (HaveValues c.args.coupons.now) c.args.coupons.now c.args.state.now c.begin.new.elements c.args.size.now c.too_small.new.size) (sym c.too_small.ensures.code)
     (no_room (c.have_values.ensures.0 c.if-not-have_values.false) c.in-NoRoom.ensures.kept c.in-NoRoom.ensures.lacks
     (record { len = c.in-NoRoom.len; bytes_are = c.too_small.ensures.size; enough = c.in-NoRoom.ensures.enough }))
 
-pub returns-in-Room : goal.returns-in-Room
-returns-in-Room c =
+pub returns-in-Room-clause-added : goal.returns-in-Room-clause-added
+returns-in-Room-clause-added c =
     added (c.have_values.ensures.0 c.if-not-have_values.false)
     (closed (length c.args.coupons.now) c.args.state.now c.begin.new.elements c.in-Room.header c.in-Room.ensures c.begin.auto.elements (λ x. add_in_turn x c.args.coupons.now)
     c.push_coupons.new.header c.push_coupons.new.body c.close.new.elements c.push_coupons.ensures.added c.close.ensures.header c.close.ensures.rest)
     refl
+
+pub returns-then-not-have_values-clause-widths : goal.returns-then-not-have_values-clause-widths
+returns-then-not-have_values-clause-widths c = keeps_own c.args.state.now
+
+pub returns-in-NoState-clause-widths : goal.returns-in-NoState-clause-widths
+returns-in-NoState-clause-widths c = subst (KeepsWidths c.args.state.now) (sym c.in-NoState.ensures.same) (keeps_own c.args.state.now)
+
+pub returns-in-NoRoom-clause-widths : goal.returns-in-NoRoom-clause-widths
+returns-in-NoRoom-clause-widths c = c.in-NoRoom.ensures.widths
+
+pub returns-in-Room-clause-widths : goal.returns-in-Room-clause-widths
+returns-in-Room-clause-widths c =
+    closed_widths (length c.args.coupons.now) c.args.state.now c.begin.new.elements c.in-Room.header c.in-Room.ensures c.begin.auto.elements c.push_coupons.new.header c.close.new.elements c.close.ensures.header c.push_coupons.ensures.widths

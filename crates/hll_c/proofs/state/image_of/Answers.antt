@@ -5,7 +5,7 @@ use borrow.Rule.Slice.PartMut.{mid_of}
 use Rattle.hll_base.proofs.Errors.{IfErr-passed}
 use Rattle.hll_sketch.specs.Value.{Sketch}
 use Rattle.hll_state.specs.Counter.{sketch_in}
-use Rattle.hll_state.proofs.States.{read_at}
+use Rattle.hll_state.proofs.States.{read_at, read_own}
 use Rattle.hll_c.specs.Answers.{IsImageOf, WithFields}
 use Rattle.hll_c.specs.Calls.{IsWidth}
 use Rattle.hll_c.specs.States.{IsOfState, RefusesState}
@@ -20,10 +20,7 @@ returns-in_err-hll_type-clause-err c =
     (refuses_no_state (IsWidth c.args.width) c.args.state.now e.field-0.0 e.ensures.outside.0 (λ are. e.ensures.outside.1 are.0))
 
 pub returns-in_err-hll_type-clause-kept : goal.returns-in_err-hll_type-clause-kept
-returns-in_err-hll_type-clause-kept c = record {
-  kept = λ s. record { sketch = sketch_in s.header (drop 10 c.args.state.now); was = record { state = s; is = refl }; is = record { state = s; is = refl } };
-  unchanged = λ none. refl;
-}
+returns-in_err-hll_type-clause-kept c = read_own c.args.state.now
 
 pub returns-in_default-clause-err : goal.returns-in_default-clause-err
 returns-in_default-clause-err c = refuses_no_state (IsWidth c.args.width) c.args.state.now c.new.result c.new.ensures (λ are. c.in_default.ensures.none are.1)

@@ -6,7 +6,7 @@ use Rattle.hll_state.proofs.Rooms.{room_fewer}
 use Rattle.hll_c.proofs.state.push_coupons.Goals as goal
 
 pub loop-raw-init : goal.loop-raw-init
-loop-raw-init c = record { within = c.requires.within; room = room_fewer c.args.header.now (length c.args.coupons.now - 0) (length c.args.coupons.now) (length c.args.body.now) (omega arith) c.requires.room; same = refl }
+loop-raw-init c = record { within = c.requires.within; room = room_fewer c.args.header.now (length c.args.coupons.now - 0) (length c.args.coupons.now) (length c.args.body.now) (omega arith) c.requires.room; widths = refl; same = refl }
 
 pub push-requires-clause-within : goal.push-requires-clause-within
 push-requires-clause-within c = c.loop-raw.invariant.within
@@ -17,10 +17,11 @@ push-requires-clause-room c = room_fewer c.loop-raw.header 1 (length c.args.coup
 pub loop-raw-preserved : goal.loop-raw-preserved
 loop-raw-preserved c =
     pushed c.args.header.now c.args.body.now c.loop-raw.header c.push.new.self c.loop-raw.body c.push.new.body c.args.coupons.now c.loop-raw.raw-index 0 _ c.loop-raw-test.true refl
-    c.loop-raw.invariant c.push.auto.body c.push.ensures.within c.push.ensures.room c.push.ensures.added
+    c.loop-raw.invariant c.push.auto.body c.push.ensures.within c.push.ensures.room c.push.ensures.added c.push.ensures.widths
 
 pub returns : goal.returns
 returns c = record {
   within = subst (IsWithin c.loop-raw.header) c.loop-raw.auto.body c.loop-raw.invariant.within;
   added = all_pushed c.args.header.now c.args.body.now c.loop-raw.header c.loop-raw.body c.args.coupons.now c.loop-raw.raw-index c.loop-raw-test.false c.loop-raw.invariant;
+  widths = c.loop-raw.invariant.widths;
 }

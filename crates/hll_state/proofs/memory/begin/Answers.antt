@@ -6,7 +6,7 @@ use Rattle.hll_state.specs.Counter.{sketch_in}
 use Rattle.hll_state.specs.Header.{IsWithin, HasRoom}
 use Rattle.hll_state.specs.Memory.{HasHeader}
 use Rattle.hll_state.specs.declared.header.Header.{Header}
-use Rattle.hll_state.proofs.States.{opened, rest_borrowed, rest_written, means, kept}
+use Rattle.hll_state.proofs.States.{opened, rest_borrowed, rest_written, means, kept, same_widths, keeps}
 use Rattle.hll_state.proofs.memory.begin.Goals as goal
 
 pub returns-in_default : goal.returns-in_default
@@ -29,6 +29,7 @@ returns-then-has_room c =
         was = means e h has;
         is = sym (opened e b h g has c.make_room-has_room.ensures.same) ∙ ap (sketch_in g) (sym (rest_written e b has.there));
       };
+      widths = λ x had. same_widths e h has x had ∙ sym c.make_room-has_room.ensures.widths;
     }
 
 pub returns : goal.returns
@@ -43,6 +44,15 @@ returns c =
     let rest : drop 10 n ≡ b = c.close.ensures.rest ∙ rest_written e b has.there in
     record {
       kept = kept e n h g has c.close.ensures.header (ap (sketch_in g) rest ∙ opened e b h g has c.make_room-has_room.ensures.same);
+      widths = keeps e n h g has c.close.ensures.header c.make_room-has_room.ensures.widths;
       lacks = λ can. c.make_room-has_room.ensures.none c.if-has_room.false (subst (HasRoom h c.args.count) (sym size) (can h has));
-      enough = record { header = g; has = c.close.ensures.header; header_fits = c.len_for.ensures.least; room = c.len_for.ensures.room; most = c.len_for.ensures.most };
+      enough = record {
+        header = g;
+        has = c.close.ensures.header;
+        header_fits = c.len_for.ensures.least;
+        room = c.len_for.ensures.room;
+        most = c.len_for.ensures.most;
+        asked = c.len_for.ensures.asked;
+        short = c.make_room-has_room.ensures.short c.if-has_room.false;
+      };
     }

@@ -1,0 +1,6 @@
+-- SPDX-License-Identifier: Apache-2.0
+use Rattle.hll_state.proofs.Prefixes.{prefix_is_state, longer_is_state}
+use Rattle.hll_state.proofs.laws.memory.Goals as goal
+
+pub returns : goal.returns
+returns c = record { prefix = prefix_is_state; longer = longer_is_state }

@@ -1,0 +1,29 @@
+-- SPDX-License-Identifier: Apache-2.0
+-- States in longer and in shorter memory (docs/MODEL.md, "States of a counter").
+use Rattle.std.specs.Prelude.{◌≡◌, ℕ, ◌+◌, ◌-◌, ◌^◌, ◌≤◌, List, ◌++◌, take, drop}
+use Rattle.hll_state.specs.Counter.{sketch_in}
+use Rattle.hll_state.specs.Header.{elements_for}
+use Rattle.hll_state.specs.Memory.{HasHeader}
+use Rattle.hll_state.specs.declared.header.Header.{Header}
+use Rattle.hll_state.specs.declared.header.Held.{Held}
+use Rattle.hll_state.specs.declared.header.Held.TheVariants.{Coupons, Registers}
+
+-- the number of elements after the header that a state takes
+abbrev pub needed : ℕ → Held → ℕ
+needed k (Coupons c) = elements_for k c.run.used
+needed k (Registers s) = 2 ^ (k - 2)
+
+-- other elements are a state with this header, and of the same sketch
+pub record IsSameState (elements : List (List ℕ)) (h : Header) (others : List (List ℕ)) : Type 0 where
+  pub has : HasHeader others h
+  pub same : sketch_in h (drop 10 others) ≡ sketch_in h (drop 10 elements)
+
+-- ---- laws
+
+-- a prefix of a state is the same state, if it has the elements that the state takes
+abbrev pub PrefixIsState : Type 0
+PrefixIsState = (elements : List (List ℕ)) (h : Header) (m : ℕ) → HasHeader elements h → needed h.lg_k h.held ≤ m → IsSameState elements h (take (10 + m) elements)
+
+-- a state is the same state in longer memory, whatever the elements after it hold
+abbrev pub LongerIsState : Type 0
+LongerIsState = (elements more : List (List ℕ)) (h : Header) → HasHeader elements h → IsSameState elements h (elements ++ more)
