@@ -396,9 +396,8 @@ hll_status hll_registers_image(const uint8_t *registers, size_t count, unsigned 
  *
  * On HLL_BUFFER the sketch is unchanged, and *size bytes are enough for the same call. For coupons they are enough for half as
  * many again and eight more, for registers they are exactly what is needed, and they are at most HLL_STATE_MOST. So a loop
- * reallocates only a few times. The bytes may be moved, and need no alignment.
- * They are the same on processors of either byte order, but may change with the version of the library: store images in
- * files and columns, not states.
+ * reallocates only a few times. The bytes may be moved, and need no alignment. They are the same on processors of either byte
+ * order, but may change with the version of the library: store images in files and columns, not states.
  *
  * The image of a state is the image that hll_image_add and hll_images_union would make of an empty sketch with the same values
  * and sketches. Without values it is the image of an empty list. If the bytes are not a state, a call returns HLL_ARGUMENT. If
@@ -406,7 +405,8 @@ hll_status hll_registers_image(const uint8_t *registers, size_t count, unsigned 
  * is above 63, calls that read it return HLL_REGISTER.
  *
  * A state takes 40 bytes, and four for each coupon. It takes more if values repeat, because a repeated coupon stays until the
- * coupons are sorted. Before a call returns HLL_BUFFER it sorts them, unless at most a quarter of the coupons is unsorted. Close to registers it takes HLL_STATE_MOST, because the registers are made next to the coupons.
+ * coupons are sorted. Before a call returns HLL_BUFFER it sorts them, unless at most a quarter of the coupons is unsorted.
+ * Close to registers it takes HLL_STATE_MOST, because the registers are made next to the coupons.
  */
 
 /* The size of a new state, in bytes. */
@@ -461,7 +461,7 @@ hll_status hll_state_join_state(unsigned lg_max_k, void *state, size_t room, siz
 /* Writes the image of a state at this width. The bytes of the state may change if it has coupons, because these are sorted, but
  * not its sketch.
  * Returns HLL_OK, HLL_REGISTER, HLL_ARGUMENT, HLL_MEMORY or HLL_BUFFER (*size is the size of the image). Allocates the image,
- * and at 4 and 6 bits a copy of registers. */
+ * and for 4-bit registers with exceptions a map and two copies of them. */
 hll_status hll_state_image(void *state, size_t room, unsigned width, uint8_t *out, size_t out_room, size_t *size);
 
 /* Estimates from a state, as hll_estimate does. The bytes of the state may change if it has coupons, but not its sketch.

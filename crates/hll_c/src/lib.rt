@@ -621,8 +621,8 @@ pub extern "C" fn hll_state_join_state(
 /// cleared.
 ///
 /// Returns `Argument` if `width` is not 4, 6 or 8 or the elements are not a state, `Register` if a register is above 63, which
-/// no call leaves there, or `Memory`. The bytes of the state may change if it has coupons, but not its sketch. Allocates
-/// the written image, and for registers of 4 and 6 bits also their copy in a sketch.
+/// no call leaves there, or `Memory`. The bytes of the state may change if it has coupons, but not its sketch. Allocates the
+/// written image, and for 4-bit registers with exceptions also a map and two copies of them.
 #[unsafe(no_mangle)]
 pub extern "C" fn hll_state_image(
     alloc: Global,
