@@ -1,15 +1,14 @@
 -- SPDX-License-Identifier: Apache-2.0
 -- Calls that merge under one bound leave the state of a union.
-use Rattle.std.proofs.Common.{◌≡◌, ℕ, ◌+◌, ◌≤◌, Bool, true, false, not, nat_eq, List, [], ◌∷◌, ◌++◌, drop, All, refl, sym, ap, subst, ◌∙◌, arith}
+use Rattle.std.proofs.Common.{◌≡◌, ℕ, true, not, nat_eq, List, [], ◌∷◌, ◌++◌, drop, All, refl, sym, ap, subst, ◌∙◌, arith}
 use Rattle.std.proofs.lemmas.Bool.{ne_eqb}
 use Rattle.std.proofs.lemmas.List.Elements.{All-nil, All-cons, All-head, All-tail}
 use Rattle.hll_base.specs.Reason.{number_of}
 use Rattle.hll_base.specs.declared.error.Reason.{Reason}
 use Rattle.hll_base.specs.declared.error.Reason.TheVariants as reasons
-use Rattle.hll_base.specs.declared.hll_type.HllType.TheVariants.{Hll8}
 use Rattle.hll_sketch.specs.Image.{IsReadAs}
 use Rattle.hll_sketch.specs.Merging.{merge, merge_all, empty_union}
-use Rattle.hll_sketch.specs.Value.{Sketch, IsLgK, IsLegal, empty_sketch}
+use Rattle.hll_sketch.specs.Value.{Sketch, IsLgK, IsLegal}
 use Rattle.hll_state.specs.Counter.{sketch_in}
 use Rattle.hll_state.specs.Joined.{joined}
 use Rattle.hll_state.specs.Memory.{IsStateOf}

@@ -1,22 +1,21 @@
 -- SPDX-License-Identifier: Apache-2.0
 -- What calls leave of a state whose sketch is legal and has, if it has registers, some above 0.
-use Rattle.std.proofs.Common.{◌≡◌, ℕ, ◌+◌, ◌*◌, ◌%◌, ◌/◌, ◌^◌, ◌<◌, ◌≤◌, not, nat_eq, min, List, [], ◌∷◌, length, drop, get_or, map, All, sym, subst, ap, ◌∙◌, arith}
+use Rattle.std.proofs.Common.{◌≡◌, ℕ, ◌+◌, ◌^◌, ◌<◌, ◌≤◌, not, nat_eq, min, List, [], ◌∷◌, drop, map, All, sym, subst, ap, ◌∙◌, arith}
 use Rattle.std.specs.Int.{w64, leading_zeros}
 use Rattle.std.proofs.lemmas.List.Elements.{All-nil, All-cons, All-head, All-tail}
 use Rattle.hll_base.specs.Hash.{hash, default_seed}
 use Rattle.hll_coupons.proofs.Registers.{value_of-pair}
 use Rattle.hll_coupons.specs.Hashed.{coupon_of_bytes}
-use Rattle.hll_coupons.specs.Pair.{IsPair, slot_of, value_of, pair}
+use Rattle.hll_coupons.specs.Pair.{IsPair, slot_of, value_of}
 use Rattle.hll_sketch.specs.Image.{IsReadAs}
 use Rattle.hll_sketch.specs.Laws.{add_in_turn}
 use Rattle.hll_base.specs.declared.hll_type.HllType.TheVariants.{Hll8}
 use Rattle.hll_sketch.specs.Value.{Sketch, IsLegal, empty_sketch}
 use Rattle.hll_state.specs.Counter.{sketch_in}
-use Rattle.hll_state.specs.Memory.{HasHeader, IsStateOf, OfState}
+use Rattle.hll_state.specs.Memory.{IsStateOf, OfState}
 use Rattle.hll_state.specs.Merged.{bit_of}
 use Rattle.hll_state.specs.Whole.{IsWhole, LeavesWhole}
 use Rattle.hll_state.specs.declared.header.Header.{Header}
-use Rattle.hll_state.specs.declared.join.Joined.TheVariants.{Done, NoRoom, OtherLgK}
 use Rattle.hll_state.proofs.States.{one_header, means}
 use Rattle.hll_state.proofs.Whole.{empty_whole, added_whole, merged_whole}
 use Rattle.hll_c.specs.ByteRegisters.{HaveValues}

@@ -1,6 +1,6 @@
 -- SPDX-License-Identifier: Apache-2.0
 -- Sketches that are merged into a state, with a bound or at the same lg_k.
-use Rattle.std.proofs.Common.{◌≡◌, ℕ, ◌+◌, Bool, true, false, not, ◌&&◌, if◌then◌else◌, nat_eq, List, length, refl, sym, ap, subst, ◌∙◌, ◌⊎◌, inl, inr}
+use Rattle.std.proofs.Common.{◌≡◌, ℕ, Bool, true, false, not, ◌&&◌, if◌then◌else◌, nat_eq, List, length, refl, sym, ap, subst, ◌∙◌, ◌⊎◌, inl, inr}
 use Rattle.std.proofs.lemmas.Bool.{cond-true, cond-false, eq-eqb, true≢false}
 use Rattle.hll_base.specs.declared.hll_type.HllType.TheVariants.{Hll8}
 use Rattle.hll_sketch.specs.Merging.{merge, merge_content}
@@ -8,7 +8,7 @@ use Rattle.hll_sketch.specs.Value.{Sketch, is_empty, empty_sketch}
 use Rattle.hll_state.specs.Counter.{sketch_in}
 use Rattle.hll_state.specs.Header.{IsWithin}
 use Rattle.hll_state.specs.Joined.{joined, started, started_header, raised, restarted, lg_ks_differ, is_refused, widths_after, AreEnoughToMerge, MergesInto, IsJoined}
-use Rattle.hll_state.specs.Merged.{HasSomeRegister, HasRoomToMerge, is_unused}
+use Rattle.hll_state.specs.Merged.{HasRoomToMerge, is_unused}
 use Rattle.hll_state.specs.declared.header.Header.{Header}
 use Rattle.hll_state.specs.declared.join.Joined.{Joined}
 use Rattle.hll_state.specs.declared.join.Joined.TheVariants.{Done, NoRoom, OtherLgK}

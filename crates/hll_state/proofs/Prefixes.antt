@@ -1,15 +1,14 @@
 -- SPDX-License-Identifier: Apache-2.0
 -- A state in a prefix of its elements that has all that are needed, and in more elements.
-use Rattle.std.proofs.Common.{◌≡◌, ℕ, ◌+◌, ◌-◌, ◌^◌, ◌≤◌, List, [], ◌∷◌, ◌++◌, length, take, drop, suc, refl, sym, ap, subst, ◌∙◌, arith}
+use Rattle.std.proofs.Common.{◌≡◌, ℕ, ◌+◌, ◌-◌, ◌^◌, ◌≤◌, List, [], ◌∷◌, ◌++◌, length, take, drop, suc, sym, ap, ◌∙◌, arith}
 use Rattle.std.proofs.lemmas.List.{length-take, length-append, take-take, take_at, drop-take}
 use Rattle.hll_base.specs.declared.hll_type.HllType.TheVariants.{Hll8}
 use Rattle.hll_coupons.specs.Pair.{set_of}
 use Rattle.hll_sketch.specs.Value.{Sketch, registers}
 use Rattle.hll_state.specs.Counter.{sketch_in, content_of, content_of_coupons}
 use Rattle.hll_state.specs.CouponRun.{raws}
-use Rattle.hll_state.specs.Header.{header_of, IsHeldWithin, IsWithin}
-use Rattle.hll_state.specs.Prefixes.{needed, IsSameState, PrefixIsState, LongerIsState}
-use Rattle.hll_state.specs.Memory.{HasHeader}
+use Rattle.hll_state.specs.Header.{header_of, IsHeldWithin}
+use Rattle.hll_state.specs.Prefixes.{needed, PrefixIsState, LongerIsState}
 use Rattle.hll_state.specs.Registers.{values}
 use Rattle.hll_state.specs.declared.header.Header.{Header}
 use Rattle.hll_state.specs.declared.header.Held.{Held}

@@ -1,26 +1,25 @@
 -- SPDX-License-Identifier: Apache-2.0
 -- Calls leave legal sketches whose registers, if there are registers, are not all 0.
-use Rattle.std.proofs.Common.{◌≡◌, ℕ, ◌≤◌, Bool, true, false, ◌&&◌, not, leb, nat_eq, if◌then◌else◌, List, [], ◌∷◌, All, refl, sym, ap, subst, ◌∙◌, arith, inl, inr}
+use Rattle.std.proofs.Common.{◌≡◌, ℕ, Bool, true, false, ◌&&◌, not, leb, if◌then◌else◌, List, [], ◌∷◌, All, refl, sym, ap, subst, ◌∙◌, arith, inl, inr}
 use Rattle.std.specs.Cmp.{nat_cmp_total}
 use Rattle.std.specs.Ordering.{nat_cmp}
-use Rattle.std.specs.FinSet.{empty, len, contains, contains-empty, contains-from_list, len-empty}
-use Rattle.std.proofs.lemmas.Bool.{cases_Bool, cond-true, cond-false, true≢false, or_left}
+use Rattle.std.specs.FinSet.{empty, contains, contains-empty, contains-from_list, len-empty}
+use Rattle.std.proofs.lemmas.Bool.{cases_Bool, cond-false, true≢false, or_left}
 use Rattle.std.proofs.lemmas.List.Elements.{All-head, All-tail}
 use Rattle.hll_base.specs.declared.hll_type.HllType.TheVariants.{Hll8}
 use Rattle.hll_coupons.proofs.Greatest.{itself}
-use Rattle.hll_coupons.specs.Pair.{Pairs, IsPair, set_of}
+use Rattle.hll_coupons.specs.Pair.{set_of}
 use Rattle.hll_sketch.proofs.Adding.{add_each}
 use Rattle.hll_sketch.proofs.Gadgets.{gadget_with, gadget_merge}
 use Rattle.hll_sketch.proofs.LegalImages.{ArePairs-set_of}
 use Rattle.hll_sketch.proofs.LegalSketches.{add_is_legal, merge_is_legal}
 use Rattle.hll_sketch.specs.Adding.{add}
-use Rattle.hll_sketch.specs.Laws.{add_in_turn}
 use Rattle.hll_sketch.specs.Merging.{merge, merge_all, merge_content, max_registers, state_after_merge, empty_union}
 use Rattle.hll_sketch.specs.Union.{IsGadget}
 use Rattle.hll_sketch.specs.Value.{Sketch, Content, coupons, registers, IsLgK, IsLegal, in_registers, is_empty, empty_sketch}
 use Rattle.hll_registers.specs.State.{cleared_state}
 use Rattle.hll_registers.specs.declared.estimate_state.EstimateState.{EstimateState}
-use Rattle.hll_state.specs.Joined.{joined, started, raised, lg_ks_differ}
+use Rattle.hll_state.specs.Joined.{started, raised, lg_ks_differ}
 use Rattle.hll_state.specs.Whole.{IsWhole, EmptyIsWhole, AddingLeavesWhole, JoiningLeavesWhole, JoiningIsMerging, JoiningAllIsMergingAll, joined_all}
 
 -- such a sketch is the gadget of a union whose bound is its lg_k

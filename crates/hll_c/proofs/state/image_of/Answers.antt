@@ -1,5 +1,5 @@
 -- SPDX-License-Identifier: Apache-2.0
-use Rattle.std.proofs.Common.{◌≡◌, ◌-◌, ℕ, List, length, drop, inl, inr, refl, sym, ap}
+use Rattle.std.proofs.Common.{◌≡◌, ◌-◌, ℕ, List, length, inl, inr, sym, ap}
 use Rattle.std.proofs.lemmas.Result.{IfOk-weaker, IfErr-weaker}
 use borrow.Rule.Slice.PartMut.{mid_of}
 use Rattle.hll_base.proofs.Errors.{IfErr-passed}
