@@ -94,8 +94,8 @@
  *       unchanged, for all inputs of a caller who ensures the above.
  *     - If an image is merged into registers that are not all 0, and these are written as an image, the result is the union of
  *       the registers and the image, with the estimator fields set.
- *     - What a state means after a merge (hll_state_join), for states that calls of this library made. Registers that other
- *       code set to 0 are an exception. No call leaves a state whose registers are all 0.
+ *     - What a state means after a merge (hll_state_join), for states that only calls of this library have written. None of
+ *       these has registers that are all 0; nothing is said of merges into a state of which other code made that.
  *     - The estimate from registers (of images, registers, histograms and states): it never falls if a register rises. It is
  *       the double nearest to a number that differs by at most one part in 2^40 plus 2^-32 from the greater of the number of
  *       registers above 0 and the value of the formula in docs/NUMBERS.md.
