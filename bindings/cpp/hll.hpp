@@ -29,10 +29,9 @@
 //
 // Threads. Several threads can call const members of one object at once, as with a container of the standard library.
 // While one thread calls another member, no other thread may use the object. The calls of hll.h that read a state may
-// reorder its bytes, so each const member reads a copy. With registers, the copy adds 10 to 20 % to the time of an
-// estimate. With coupons, each copy is sorted: at 300 values an estimate takes 4 microseconds, and 1 if the coupons are
-// sorted already (bench.cpp). Sorting at each update would cost more, because sketches are updated more often than
-// they are read.
+// sort its coupons, so a const member reads a copy of them: at 300 values an estimate takes 4 microseconds, and 1 if the
+// coupons are sorted already (bench.cpp). Sorting at each update would cost more, because sketches are updated more often
+// than they are read. Registers are read where they are, and an estimate of them allocates nothing.
 #ifndef HLL_HPP
 #define HLL_HPP
 
@@ -265,12 +264,15 @@ class state {
     /// Grows to the most room that the sketch can need, so no later call needs more.
     void grow_to_most() { grow(HLL_STATE_MOST(lg_k())); }
 
-    /// Returns a copy, for a call that reads the sketch but may change its bytes.
-    state scratch() const
+    /// Makes a call that reads the sketch: call(bytes, room). The call may sort coupons, so it gets a copy of them. It
+    /// changes no byte of a state that has registers (hll.h).
+    template <class Call> auto read(Call call) const -> decltype(call(static_cast<uint8_t *>(nullptr), size_t()))
     {
+        if (has_registers())
+            return call(const_cast<uint8_t *>(bytes_.data()), bytes_.size());
         state copy(*this);
         copy.start();
-        return copy;
+        return call(copy.bytes_.data(), copy.bytes_.size());
     }
 
     hll_status join(unsigned lg_max_k, const uint8_t *image, size_t len)
@@ -280,48 +282,44 @@ class state {
         });
     }
 
-    /// Merges another state. The call may reorder the other state's bytes, but keeps its sketch.
-    hll_status join_reordered(unsigned lg_max_k, state &other)
+    /// Merges another state, whose coupons may be sorted. It keeps its sketch.
+    hll_status join_sorted(unsigned lg_max_k, state &other)
     {
         other.start();
-        return changed_by([&](uint8_t *bytes, size_t room, size_t *size) {
-            return hll_state_join_state(lg_max_k, bytes, room, size, other.bytes_.data(), other.bytes_.size());
-        });
+        return join_bytes(lg_max_k, other.bytes_.data(), other.bytes_.size());
+    }
+
+    /// Merges another state.
+    hll_status join(unsigned lg_max_k, const state &other)
+    {
+        return other.read([this, lg_max_k](uint8_t *bytes, size_t room) { return join_bytes(lg_max_k, bytes, room); });
     }
 
     hll_estimation estimation() const
     {
-        state copy = scratch();
-        hll_estimation found;
-        check(hll_state_estimate(copy.bytes_.data(), copy.bytes_.size(), &found));
-        return found;
+        return read([](uint8_t *bytes, size_t room) {
+            hll_estimation found;
+            check(hll_state_estimate(bytes, room, &found));
+            return found;
+        });
     }
 
     /// Returns the image after `before` bytes, which are 0.
     std::vector<uint8_t> image(width given, size_t before = 0) const
     {
-        state copy = scratch();
-        std::vector<uint8_t> out(before + copy.bytes_.size()); // enough, unless 4-bit registers have many exceptions
-        size_t size = 0;
-        hll_status status = copy.put_image(given, out.data() + before, out.size() - before, &size);
-        if (status == HLL_BUFFER) {
-            out.resize(before + size);
-            status = copy.put_image(given, out.data() + before, size, &size);
-        }
-        check(status);
-        out.resize(before + size);
-        out.shrink_to_fit();
-        return out;
+        return read([=](uint8_t *bytes, size_t room) { return image_of(bytes, room, given, before); });
     }
 
     /// Returns the size of the image.
     size_t image_size(width given) const
     {
-        size_t size = 0;
-        const hll_status status = scratch().put_image(given, nullptr, 0, &size);
-        if (status != HLL_BUFFER) // which is what no room gives
-            check(status);
-        return size;
+        return read([=](uint8_t *bytes, size_t room) {
+            size_t size = 0;
+            const hll_status status = hll_state_image(bytes, room, bits_of(given), nullptr, 0, &size);
+            if (status != HLL_BUFFER) // which is what no room gives
+                check(status);
+            return size;
+        });
     }
 
     /// Returns the bytes that are allocated.
@@ -340,9 +338,26 @@ class state {
 
     size_t size() const noexcept { return bytes_.empty() ? 0 : hll_state_size(bytes_.data()); }
 
-    hll_status put_image(width given, uint8_t *out, size_t out_room, size_t *size)
+    static std::vector<uint8_t> image_of(uint8_t *bytes, size_t room, width given, size_t before)
     {
-        return hll_state_image(bytes_.data(), bytes_.size(), bits_of(given), out, out_room, size);
+        size_t size = hll_state_size(bytes); // enough for the image, unless 4-bit registers have many exceptions
+        std::vector<uint8_t> out(before + size);
+        hll_status status = hll_state_image(bytes, room, bits_of(given), out.data() + before, size, &size);
+        if (status == HLL_BUFFER) {
+            out.resize(before + size);
+            status = hll_state_image(bytes, room, bits_of(given), out.data() + before, size, &size);
+        }
+        check(status);
+        out.resize(before + size);
+        out.shrink_to_fit();
+        return out;
+    }
+
+    hll_status join_bytes(unsigned lg_max_k, uint8_t *other, size_t room_of_other)
+    {
+        return changed_by([=](uint8_t *bytes, size_t room, size_t *size) {
+            return hll_state_join_state(lg_max_k, bytes, room, size, other, room_of_other);
+        });
     }
 
     void start()
@@ -714,12 +729,8 @@ class union_ : public detail::counter {
     using counter::update;
 
     /// Merges a sketch. A sketch that is passed by std::move is merged without a copy, and keeps its values.
-    void update(const sketch &other)
-    {
-        detail::state copy = other.state_.scratch();
-        joined(state_.join_reordered(lg_max_k_, copy), other.lg_k());
-    }
-    void update(sketch &&other) { joined(state_.join_reordered(lg_max_k_, other.state_), other.lg_k()); }
+    void update(const sketch &other) { joined(state_.join(lg_max_k_, other.state_), other.lg_k()); }
+    void update(sketch &&other) { joined(state_.join_sorted(lg_max_k_, other.state_), other.lg_k()); }
 
     /// Merges an image without making a sketch of it. Bytes after the image are not read. If the bytes are untrusted,
     /// call is_small first.
