@@ -2,7 +2,7 @@
 """Lines of a stream as values of a sketch."""
 from __future__ import annotations
 
-from typing import BinaryIO, Callable, List, Optional
+from typing import BinaryIO, Callable, Iterator, List, Optional
 
 from . import _library
 from ._values import bytes_of_int, joined
@@ -45,11 +45,61 @@ class LineError(ValueError):
         self.number, self.line = number, line[:40]
 
 
-def _int_of(line: bytes) -> int:
-    """Returns the integer of a line. Spaces around it and a CR are ignored."""
+def lines_of(
+    stream: BinaryIO, longest: int = LONGEST_LINE, room: Optional[int] = None
+) -> Iterator[List[bytes]]:
+    """Yields the lines of a stream in lists: the lines that end in each block of ``room`` bytes.
+
+    A line is its bytes without the LF. Bytes after the last LF are a line too. A line may be longer than
+    a block, and is kept until its end.
+
+    Raises
+    ------
+    LongLineError
+        If a line is longer than ``longest``.
+    """
+    begun: List[bytes] = []
+    size, count = 0, 0      # of the line that has begun, and of the lines before it
+    for block in iter(lambda: stream.read(room or BLOCK), b""):
+        end = block.rfind(b"\n")
+        if end < 0:
+            begun.append(block)
+            size += len(block)
+            if size > longest:
+                raise LongLineError(count + 1)
+            continue
+        lines = b"".join([*begun, block[:end]]).split(b"\n")
+        _check_lengths(lines, count, longest)
+        begun, count = [block[end + 1 :]], count + len(lines)
+        size = len(begun[0])
+        yield lines
+    last = b"".join(begun)
+    if last:
+        _check_lengths([last], count, longest)
+        yield [last]
+
+
+def _check_lengths(lines: List[bytes], before: int, longest: int) -> None:
+    """Raises an error if one of these lines, which follow others, is too long."""
+    if max(map(len, lines)) > longest:
+        raise LongLineError(before + next(n for n, line in enumerate(lines, 1) if len(line) > longest))
+
+
+def int_of(line: bytes) -> int:
+    """Returns the integer of a line. Spaces around it and a CR are ignored.
+
+    Raises
+    ------
+    ValueError
+        If it is no integer.
+    OverflowError
+        If it has more than 64 bits.
+    """
     if b"_" in line:
         raise ValueError
-    return int(line)
+    number = int(line)
+    bytes_of_int(number)
+    return number
 
 
 class Lines:
@@ -82,16 +132,12 @@ class Lines:
         self._are_ints, self._longest = are_ints, longest
 
     def add(self, stream: BinaryIO, more: Optional[Callable[[int], None]] = None) -> None:
-        """Adds each line of a stream.
-
-        A line is its bytes without the LF. An empty line is a text like any other. Bytes after the
-        last LF are a line too.
+        """Adds each line of a stream, as ``lines_of`` yields them. An empty line is a text like any other.
 
         Parameters
         ----------
         stream : binary file
-            It is read to its end, in blocks. A line may be longer than a block, and is kept until its
-            end.
+            It is read to its end, in blocks.
         more : callable, optional
             Called with the number of lines of each block.
 
@@ -103,30 +149,13 @@ class Lines:
             If a line is longer than ``longest``. The lines before it, up to some of the same block, have
             been added.
         """
-        begun: List[bytes] = []
-        size = 0        # of the line that has begun
-        for block in iter(lambda: stream.read(BLOCK), b""):
-            end = block.rfind(b"\n")
-            if end < 0:
-                begun.append(block)
-                size += len(block)
-                if size > self._longest:
-                    raise LongLineError(self.count + 1)
-                continue
-            number = self._add_lines(b"".join([*begun, block[:end]]).split(b"\n"))
-            begun = [block[end + 1 :]]
-            size = len(begun[0])
+        for lines in lines_of(stream, self._longest):
+            self._add_lines(lines)
             if more is not None:
-                more(number)
-        last = b"".join(begun)
-        if last:
-            self._add_lines([last])
+                more(len(lines))
 
-    def _add_lines(self, lines: List[bytes]) -> int:
-        """Adds lines, and returns their number."""
-        if max(map(len, lines)) > self._longest:
-            long = next(n for n, line in enumerate(lines) if len(line) > self._longest)
-            raise LongLineError(self.count + long + 1)
+    def _add_lines(self, lines: List[bytes]) -> None:
+        """Adds lines."""
         if self._are_ints:
             batch = joined(self._ints_of(lines))
         else:
@@ -134,20 +163,20 @@ class Lines:
             self.ending_in_cr += sum(line.endswith(b"\r") for line in lines)
         self.image = _library.add(self.image, *batch)
         self.count += len(lines)
-        return len(lines)
 
     def _ints_of(self, lines: List[bytes]) -> List[int]:
         """Returns the integers of lines."""
         try:
-            return [one for one in map(_int_of, lines) if bytes_of_int(one)]
+            return list(map(int_of, lines))
         except (ValueError, OverflowError):
-            number = next(n for n, line in enumerate(lines) if not _is_int(line))
+            number = next(n for n, line in enumerate(lines) if not is_int(line))
             raise LineError(self.count + number + 1, lines[number]) from None
 
 
-def _is_int(line: bytes) -> bool:
+def is_int(line: bytes) -> bool:
     """Returns whether a line is a 64-bit integer."""
     try:
-        return bool(bytes_of_int(_int_of(line)))
+        int_of(line)
     except (ValueError, OverflowError):
         return False
+    return True

@@ -9,13 +9,14 @@ import os
 import signal
 import sys
 import textwrap
-from typing import Any, Callable, List, Optional
+from typing import Any, Callable, Dict, List, Optional
 
 from . import __version__, commands
 from ._names import ESCAPING
 from ._signals import end_at_once
 from .adding import LONGEST_LINE
 from .files import REFUSED, STANDARD, UNUSABLE, OutputTrouble, Trouble
+from .rows import Layout
 
 _ABOUT = "HyperLogLog sketches in the DataSketches format: make, merge, compare and look at them."
 _NOTES = """\
@@ -49,6 +50,26 @@ _lg_k = _number(4, 21, "an lg_k is 4 to 21")
 _jobs = _number(1, 1024, "the number of jobs is 1 to 1024")
 _most = _number(0, float("inf"), "a number of slots")
 _bytes = _number(0, float("inf"), "a number of bytes")
+_column = _number(1, 1 << 20, "without --csv, a column is a number from 1")
+
+_UNITS = {"K": 1 << 10, "M": 1 << 20, "G": 1 << 30}
+
+
+def _memory(text: str) -> int:
+    """A type of argument: a number of bytes, maybe in units."""
+    number, unit = (text[:-1], _UNITS[text[-1]]) if text[-1:] in _UNITS else (text, 1)
+    try:
+        return _bytes(number) * unit
+    except argparse.ArgumentTypeError:
+        raise argparse.ArgumentTypeError(f"a number of bytes, or with K, M or G, not {text!r}") from None
+
+
+def _separator(text: str) -> bytes:
+    """A type of argument: what is between columns. ``\\t`` is a TAB."""
+    separator = b"\t" if text == "\\t" else os.fsencode(text)
+    if not separator or b"\n" in separator:
+        raise argparse.ArgumentTypeError(f"a separator has one byte or more, and no LF, not {text!r}")
+    return separator
 
 
 # ---- arguments of several commands
@@ -173,8 +194,36 @@ def _new(parser: argparse.ArgumentParser) -> None:
     _with_json(parser)
 
 
+_BY_KEY: Dict[str, Any] = {
+    "lg_k": 12, "width": 8, "key": "1", "value": "2", "separator": None, "csv": False, "memory": 1 << 30,
+    "sorted": False,
+}
+"""The options that go with ``--by-key``, and their defaults."""
+
+
+def _with_keys(parser: argparse.ArgumentParser) -> None:
+    help_ = "count lines by key: read a key and a value from each, and add the value to the sketch of " \
+        "its key, a file of DIRECTORY. Files that don't exist are made"
+    parser.add_argument("--by-key", metavar="DIRECTORY", help=help_)
+    group = parser.add_argument_group("with --by-key")
+    what = "the column of the %s: its number, or with --csv its name in the header (%d)"
+    group.add_argument("--key", metavar="COLUMN", help=what % ("key", 1))
+    group.add_argument("--value", metavar="COLUMN", help=what % ("value", 2))
+    help_ = "what is between two columns (TAB, or with --csv a comma); \\t is TAB"
+    group.add_argument("--separator", type=_separator, metavar="TEXT", help=help_)
+    help_ = 'read CSV: the first line is the header, and columns may be quoted by "'
+    group.add_argument("--csv", action="store_true", default=None, help=help_)
+    help_ = "the most bytes of memory for sketches, also with K, M or G (1G)"
+    group.add_argument("--memory", type=_memory, metavar="BYTES", help=help_)
+    help_ = "lines are sorted by key: write each file once its key has ended, and so use little memory"
+    group.add_argument("--sorted", action="store_true", default=None, help=help_)
+    group.add_argument("--lg-k", type=_lg_k, metavar="K", help="the lg_k of new files (12)")
+    help_ = "bits of a register of new files: 4, 6 or 8 (8)"
+    group.add_argument("--width", type=int, choices=(4, 6, 8), help=help_)
+
+
 def _add(parser: argparse.ArgumentParser) -> None:
-    parser.add_argument("file", metavar="FILE", help="the file of a sketch")
+    parser.add_argument("file", metavar="FILE", nargs="?", help="the file of a sketch")
     _with_output(parser, help="the file to write (FILE itself); - is standard output")
     help_ = "what a line counts as: a text (default), or an integer in decimal, as in Python and SQL"
     parser.add_argument("--as", dest="kind", choices=("text", "int"), default="text", help=help_)
@@ -185,6 +234,7 @@ def _add(parser: argparse.ArgumentParser) -> None:
         "--longest-line", type=_bytes, metavar="BYTES", default=LONGEST_LINE, help=help_
     )
     _with_plain(parser)
+    _with_keys(parser)
 
 
 _COMMANDS = (
@@ -211,7 +261,9 @@ _MORE = {
     "new": "Add values to it with `hll add`.",
     "add": "A line counts as a text: its bytes without the LF, including a CR. An empty line is a "
     "text too. So 7 is a text and not the integer 7, unless --as int is given. If another process "
-    "holds the lock of FILE for ten seconds, nothing is added, unless --wait is given.",
+    "holds the lock of FILE for ten seconds, nothing is added, unless --wait is given. With --by-key, a "
+    "line is a key, a TAB and a value, and each key has a file of its own: KEY.hll, with bytes other than "
+    "letters, digits, '.', '_' and '-' written as %XX.",
 }
 
 
@@ -252,13 +304,47 @@ def _completed(parser: argparse.ArgumentParser) -> None:
         argcomplete.autocomplete(parser)
 
 
+def _check_add(parser: argparse.ArgumentParser, options: argparse.Namespace) -> None:
+    """Reports arguments of ``add`` that can't be combined."""
+    if options.by_key is not None:
+        _check_by_key(parser, options)
+        return
+    if options.file is None:
+        parser.error("add needs FILE, or --by-key DIRECTORY")
+    if options.file == STANDARD:
+        parser.error("standard input has the lines, so FILE can't be -")
+    for name in _BY_KEY:
+        if getattr(options, name) is not None:
+            parser.error(f"--{name.replace('_', '-')} goes with --by-key")
+
+
+def _check_by_key(parser: argparse.ArgumentParser, options: argparse.Namespace) -> None:
+    """Reports arguments of ``add --by-key`` that can't be combined, and sets defaults."""
+    for name, given in (("FILE", options.file), ("-o", options.output)):
+        if given is not None:
+            parser.error(f"{name} and --by-key don't go together: --by-key names the files after the keys")
+    for name, default in _BY_KEY.items():
+        if getattr(options, name) is None:
+            setattr(options, name, default)
+    separator = options.separator or (b"," if options.csv else b"\t")
+    if not options.csv:
+        for name in ("key", "value"):
+            try:
+                _column(getattr(options, name))
+            except argparse.ArgumentTypeError as error:
+                parser.error(f"argument --{name}: {error}")
+    elif len(separator) > 1 or separator > b"\x7f" or separator in b'"\r':
+        parser.error("with --csv a separator is one ASCII character, and neither a quote nor a CR")
+    options.layout = Layout(options.key, options.value, separator, options.csv)
+
+
 def _chosen(parser: argparse.ArgumentParser, arguments: Optional[List[str]]) -> argparse.Namespace:
     """Returns the arguments, or reports that they can't be combined."""
     options = parser.parse_args(arguments)
     if getattr(options, "json", False) and getattr(options, "output", None) == STANDARD:
         parser.error("--json and an image on standard output don't go together")
-    if options.command == "add" and options.file == STANDARD:
-        parser.error("standard input has the lines, so FILE can't be -")
+    if options.command == "add":
+        _check_add(parser, options)
     if getattr(options, "null", False) and options.files_from is None:
         parser.error("-0 goes with --files-from")
     return options

@@ -8,18 +8,22 @@ import os
 import struct
 import sys
 from argparse import Namespace
-from contextlib import suppress
-from typing import Any, Callable, Dict, Iterator, List, Optional, Tuple
+from contextlib import contextmanager, suppress
+from functools import partial
+from typing import TYPE_CHECKING, Any, BinaryIO, Callable, Dict, Iterator, List, Optional, Tuple
 
 from . import _library
 from ._errors import ArgumentError
 from ._names import shown
 from .adding import LineError, Lines, LongLineError
 from .files import STANDARD, UNUSABLE, OutputTrouble, Trouble, bytes_of_file, check_output
-from .files import image_of_file, image_trouble, locked, of_file, write_file
+from .files import image_at, image_of_file, image_trouble, locked, of_file, write_file
 from .finding import Tell, found, names_in
 from .layout import STAGES, estimator_fields_of, flags_of, registers_of, size_of
 from .progress import Bar
+
+if TYPE_CHECKING:
+    from .by_key import Counters, Directory
 
 OK, DIFFER = 0, 1
 
@@ -310,30 +314,34 @@ def add(options: Namespace) -> int:
     values, and none waits for the input of another. It waits for the lock for ten seconds, or with
     ``--wait`` for as long as another process holds it.
     """
-    if options.file != STANDARD and not os.path.lexists(options.file):
+    if options.by_key is not None:
+        return _add_by_key(options)
+    if not os.path.lexists(options.file):
         raise Trouble(options.file, "No such file or directory (hll new makes it)", UNUSABLE)
     lg_k = image_of_file(options.file)[3]
     options.output = options.output or options.file
     check_output(options.output, options.force)
     lines = _lines_of_input(lg_k, options.kind == "int", options.longest_line)
-    if lines.ending_in_cr:
-        say(f"standard input: {lines.ending_in_cr:,} lines end in a CR, which counts as a part of them")
+    _warn_of_cr(lines.ending_in_cr)
     with locked(options.file, say if options.wait else None):
-        image = image_of_file(options.file)
-        if image[3] != lg_k:
-            words = f"its lg_k has become {image[3]}, from {lg_k}, while lines were read: add them again"
-            raise Trouble(options.file, words)
+        image = image_at(options.file, lg_k)
         if lines.count:
             image = _library.merge(lg_k, _library.width_in(image), image, lines.image)
         return put(options, finished(image, options.plain), lines=lines.count)
 
 
-def _lines_of_input(lg_k: int, are_ints: bool, longest: int) -> Lines:
-    """Returns a sketch of the lines of standard input."""
-    lines = Lines(_library.new(lg_k, 8), are_ints, longest)
+def _warn_of_cr(lines: int) -> None:
+    """Reports lines that end in a CR."""
+    if lines:
+        say(f"standard input: {lines:,} lines end in a CR, which counts as a part of them")
+
+
+@contextmanager
+def _standard_input(longest: int) -> Iterator[BinaryIO]:
+    """Opens standard input, and reports its errors."""
     try:
-        with open(os.dup(0), "rb") as stream, Bar("line") as bar:
-            lines.add(stream, bar.more)
+        with open(os.dup(0), "rb") as stream:
+            yield stream
     except LongLineError as error:
         words = f"line {error.number:,} is longer than {longest:,} bytes (--longest-line changes this)"
         raise Trouble("standard input", words) from None
@@ -343,7 +351,63 @@ def _lines_of_input(lg_k: int, are_ints: bool, longest: int) -> Lines:
         raise Trouble("standard input", words) from None
     except OSError as error:
         raise Trouble("standard input", error.strerror or str(error), UNUSABLE) from None
+
+
+def _lines_of_input(lg_k: int, are_ints: bool, longest: int) -> Lines:
+    """Returns a sketch of the lines of standard input."""
+    lines = Lines(_library.new(lg_k, 8), are_ints, longest)
+    with _standard_input(longest) as stream, Bar("line") as bar:
+        lines.add(stream, bar.more)
     return lines
+
+
+def _add_by_key(options: Namespace) -> int:
+    """Adds the values of standard input to the sketches of their keys, which are files of a directory."""
+    from .by_key import Counters, Directory
+
+    directory = Directory(
+        options.by_key, options.lg_k, options.width, partial(finished, plain=options.plain),
+        options.force, say if options.wait else None,
+    )
+    counters = Counters(directory.begin, options.kind == "int", options.memory)
+    try:
+        _count_by_key(options, counters, directory)
+        _warn_of_cr(counters.ending_in_cr)
+        with Bar("file", len(counters.images)) as bar:
+            directory.write_all(counters, sorted(counters.images), bar.more)
+    except Trouble as trouble:
+        if not directory.written:
+            raise
+        done = "1 file is" if directory.written == 1 else f"{directory.written:,} files are"
+        words = f"{trouble.words} ({done} written: add all lines again, and each counts once)"
+        raise Trouble(trouble.name, words, trouble.status) from None
+    if options.json:
+        facts = {"lines": counters.count, "keys": directory.written, "new": directory.made}
+        show({"output": options.by_key, **facts})
+    return OK
+
+
+def _count_by_key(options: Namespace, counters: Counters, directory: Directory) -> None:
+    """Counts the values of standard input. If lines are sorted by key, this writes the file of each key but
+    the last one, once lines of another key follow."""
+    from .by_key import FullError
+    from .rows import RowError
+
+    try:
+        with _standard_input(options.longest_line) as stream, Bar("line") as bar:
+            for batch in options.layout.batches(stream, options.longest_line):
+                counters.add(batch)
+                if options.sorted and batch.pairs:
+                    last = batch.pairs[-1][0]
+                    directory.write_all(counters, [key for key in counters.images if key != last])
+                bar.more(len(batch.pairs))
+    except RowError as error:
+        raise Trouble("standard input", f"line {error.number:,} {error.words}") from None
+    except FullError as error:
+        words = f"after line {error.number:,} the sketches of {error.keys:,} keys need more than " \
+            f"{options.memory:,} bytes"
+        cure = "" if options.sorted else ", and --sorted needs one sketch at a time"
+        raise Trouble("standard input", f"{words} (--memory allows more{cure})") from None
 
 
 # ---- comparing

@@ -233,7 +233,25 @@ def image_of_file(name: str) -> bytes:
     return of_file(name, lambda data: _library.convert(data, _library.width_in(data)))
 
 
+def image_at(name: str, lg_k: int) -> bytes:
+    """Returns what ``image_of_file`` returns for a file that had this ``lg_k`` when lines were counted for it.
+
+    Raises
+    ------
+    Trouble
+        If the file can't be read, is no image, or has another ``lg_k``.
+    """
+    image = image_of_file(name)
+    if image[3] != lg_k:
+        words = f"its lg_k has become {image[3]}, from {lg_k}, while lines were read: add them again"
+        raise Trouble(name, words)
+    return image
+
+
 # ---- writing
+
+_NO_LINKS = (errno.EPERM, errno.ENOSYS, errno.ENOTSUP, errno.EOPNOTSUPP)
+"""The errors of a file system that has no hard links."""
 
 
 def _write_all(place: int, data: bytes) -> None:
@@ -344,7 +362,29 @@ def _named(place: int, name: str) -> bool:
     return True
 
 
-def _replace_by_link(path: str, data: bytes, before: Optional[os.stat_result]) -> bool:
+def _rename_over(temporary: str, path: str) -> None:
+    """Gives a file the name of another one, which it replaces."""
+    os.replace(temporary, path)
+
+
+def _rename_new(temporary: str, path: str) -> None:
+    """Gives a file a name that no file has, or raises ``FileExistsError``."""
+    try:
+        os.link(temporary, path)
+    except OSError as error:
+        if error.errno not in _NO_LINKS:
+            raise
+        if os.path.lexists(path):
+            raise FileExistsError(errno.EEXIST, os.strerror(errno.EEXIST), path) from None
+        os.rename(temporary, path)
+
+
+Rename = Callable[[str, str], None]
+
+
+def _replace_by_link(
+    path: str, data: bytes, before: Optional[os.stat_result], rename: Rename
+) -> bool:
     """Writes a file that has no name until it is complete, so no incomplete file is left. Returns False
     if the system can't do this."""
     try:
@@ -356,13 +396,15 @@ def _replace_by_link(path: str, data: bytes, before: Optional[os.stat_result]) -
         with _temporary(path) as temporary:
             if not _named(place, temporary):
                 return False
-            os.replace(temporary, path)
+            rename(temporary, path)
         return True
     finally:
         os.close(place)
 
 
-def _replace_by_name(path: str, data: bytes, before: Optional[os.stat_result]) -> None:
+def _replace_by_name(
+    path: str, data: bytes, before: Optional[os.stat_result], rename: Rename
+) -> None:
     """Writes a file under another name first. Signals are delayed until it is written."""
     with _temporary(path) as temporary:
         place = os.open(temporary, os.O_WRONLY | os.O_CREAT | os.O_EXCL | os.O_CLOEXEC, 0o666)
@@ -370,10 +412,10 @@ def _replace_by_name(path: str, data: bytes, before: Optional[os.stat_result]) -
             _fill(place, data, before)
         finally:
             os.close(place)
-        os.replace(temporary, path)
+        rename(temporary, path)
 
 
-def _sync_folder(folder: str) -> None:
+def sync_folder(folder: str) -> None:
     """Syncs the names in a folder to disk, if the folder can be read and its file system supports that."""
     try:
         place = os.open(folder, os.O_RDONLY | os.O_DIRECTORY | os.O_CLOEXEC)
@@ -388,11 +430,12 @@ def _sync_folder(folder: str) -> None:
         os.close(place)
 
 
-def _replace(path: str, data: bytes, before: Optional[os.stat_result]) -> None:
-    """Replaces the file at a path, once the new file is complete and on disk."""
-    if not _replace_by_link(path, data, before):
-        _replace_by_name(path, data, before)
-    _sync_folder(os.path.dirname(path))
+def _replace(
+    path: str, data: bytes, before: Optional[os.stat_result], rename: Rename = _rename_over
+) -> None:
+    """Replaces the file at a path, once the new file is complete and on disk. The name is not on disk yet."""
+    if not _replace_by_link(path, data, before, rename):
+        _replace_by_name(path, data, before, rename)
 
 
 def _write_into(path: str, data: bytes) -> None:
@@ -406,8 +449,10 @@ def _write_into(path: str, data: bytes) -> None:
         os.close(place)
 
 
-def write_path(name: str, data: bytes) -> None:
+def write_path(name: str, data: bytes, sync_names: bool = True) -> None:
     """Writes a whole file, or leaves it unchanged. The file keeps its owner and its mode.
+
+    Without ``sync_names``, the caller has to call ``sync_folder`` for the folder of the file.
 
     Raises
     ------
@@ -419,6 +464,8 @@ def write_path(name: str, data: bytes) -> None:
         before = _status_of(name)
         if before is None or stat.S_ISREG(before.st_mode):
             _replace(path, data, before)
+            if sync_names:
+                sync_folder(os.path.dirname(path))
         else:
             _write_into(name, data)
 
@@ -434,7 +481,7 @@ def _reported_of(name: str) -> Iterator[None]:
         raise Trouble(name, "no name of a file", UNUSABLE) from None
 
 
-def write_file(name: str, data: bytes) -> None:
+def write_file(name: str, data: bytes, sync_names: bool = True) -> None:
     """Does what ``write_path`` does; ``-`` is standard output.
 
     Raises
@@ -446,7 +493,29 @@ def write_file(name: str, data: bytes) -> None:
         _write_standard(data)
         return
     with _reported_of(name):
-        write_path(name, data)
+        write_path(name, data, sync_names)
+
+
+def create_file(name: str, data: bytes) -> bool:
+    """Writes a whole new file. Its name is not on disk until ``sync_folder`` is called.
+
+    Returns
+    -------
+    bool
+        False, without a change, if a file has the name.
+
+    Raises
+    ------
+    Trouble
+        If it can't be written.
+    """
+    with _reported_of(name):
+        try:
+            with _named_in_errors(name):
+                _replace(target_of(name), data, None, _rename_new)
+        except FileExistsError:
+            return False
+    return True
 
 
 def _check_kept(name: str, before: os.stat_result) -> None:
@@ -507,7 +576,7 @@ def _lock(place: int, name: str, still_waiting: Optional[Callable[[str], None]])
             time.sleep(MOMENT)
     words = f"another process has held its lock for {PATIENCE:.0f} seconds"
     if still_waiting is None:
-        raise Trouble(name, f"{words}: nothing was added (--wait waits for as long as it takes)", UNUSABLE)
+        raise Trouble(name, f"{words}: nothing was added to it (--wait waits for as long as it takes)", UNUSABLE)
     still_waiting(f"{shown(name)}: waits for its lock, as {words}")
     fcntl.flock(place, fcntl.LOCK_EX)
 

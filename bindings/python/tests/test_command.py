@@ -179,7 +179,7 @@ class AddTest(CommandTest):
         told = []
         image, count = added(text, told.append)
         self.assertEqual((image, count), (sketch_of(text.split(b"\n")).to_bytes(), 3))
-        self.assertEqual(told, [2])
+        self.assertEqual(told, [2, 1])
 
     def test_command(self):
         lines = [b"%d" % number for number in range(300_000)]
@@ -265,7 +265,7 @@ class AddTest(CommandTest):
                 with self.assertRaises(files.Trouble) as caught, files.locked(name):
                     self.fail("it is locked")
                 self.assertEqual((caught.exception.words, caught.exception.status), (
-                    f"{waits}: nothing was added (--wait waits for as long as it takes)", 2))
+                    f"{waits}: nothing was added to it (--wait waits for as long as it takes)", 2))
             said = []
 
             def tell(words):
@@ -288,7 +288,7 @@ class AddTest(CommandTest):
         before = self.read("a.hll")
         with open(self.folder / "a.hll") as held:
             fcntl.flock(held, fcntl.LOCK_SH)
-            words = "a.hll: another process has held its lock for 10 seconds: nothing was added " \
+            words = "a.hll: another process has held its lock for 10 seconds: nothing was added to it " \
                 "(--wait waits for as long as it takes)"
             self.fails(2, [words], "add", "a.hll", given=b"x\n")
         self.assertEqual(self.read("a.hll"), before)

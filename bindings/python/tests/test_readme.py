@@ -16,8 +16,8 @@ README = common.PACKAGE / "README.md"
 
 def transcript():
     """Each command of the README, and the lines that are shown below it."""
-    block = re.search(r"```console\n(.*?)```", README.read_text("utf-8"), re.S)[1]
-    for part in re.split(r"^\$ ", block, flags=re.M)[1:]:
+    blocks = re.findall(r"```console\n(.*?)```", README.read_text("utf-8"), re.S)
+    for part in re.split(r"^\$ ", "".join(blocks), flags=re.M)[1:]:
         command, _, shown = part.partition("\n")
         yield command, shown
 
