@@ -11,7 +11,7 @@ from typing import BinaryIO, Callable, Iterable, Iterator, List, NamedTuple, Seq
 from ._names import shown
 from .adding import LONGEST_LINE, lines_of
 
-BLOCK, RECORDS = 1 << 21, 1 << 16
+BLOCK, RECORDS = 1 << 22, 1 << 17
 """The bytes of lines, and the records of CSV, that are read at a time. Each key of a batch costs a call of the
 library, so a batch is large."""
 
