@@ -16,6 +16,7 @@ estimates from registers. Bounds, estimates from coupons, and this package itsel
 """
 from ._errors import ArgumentError, FilesError, HllError, ImageError, PrecisionError
 from ._values import Value, coupon, coupons
+from .archive import ArchiveError, read_archive, write_archive
 from .merging import merge_files
 from .registers import Registers
 from .sketch import Sketch, fault_of, is_image, is_small
@@ -24,6 +25,7 @@ from .union import SketchUnion, union_of
 __version__ = "0.2.0"
 
 __all__ = [
+    "ArchiveError",
     "ArgumentError",
     "FilesError",
     "HllError",
@@ -39,5 +41,7 @@ __all__ = [
     "is_image",
     "is_small",
     "merge_files",
+    "read_archive",
     "union_of",
+    "write_archive",
 ]

@@ -16,7 +16,6 @@ from ._names import ESCAPING
 from ._signals import end_at_once
 from .adding import LONGEST_LINE
 from .files import REFUSED, STANDARD, UNUSABLE, OutputTrouble, Trouble
-from .rows import Layout
 
 _ABOUT = "HyperLogLog sketches in the DataSketches format: make, merge, compare and look at them."
 _NOTES = """\
@@ -135,6 +134,8 @@ def _merge(parser: argparse.ArgumentParser) -> None:
     parser.add_argument("--jobs", type=_jobs, metavar="N", help="the number of processes (one per processor)")
     help_ = "leave out files that are not images or can't be read, print their names, and go on"
     parser.add_argument("--skip-bad", action="store_true", help=help_)
+    help_ = "merge archives key by key, into an archive (otherwise all their sketches are merged into one)"
+    parser.add_argument("--by-key", action="store_true", help=help_)
     _with_plain(parser)
 
 
@@ -145,7 +146,7 @@ def _info(parser: argparse.ArgumentParser) -> None:
 
 
 def _estimate(parser: argparse.ArgumentParser) -> None:
-    _with_files(parser, "+", "a file, or -")
+    _with_files(parser, "+", "a file, an archive, or -")
     _with_deviations(parser, "print the bounds too, at 1, 2 or 3 standard deviations", None)
     _with_json(parser)
 
@@ -205,7 +206,9 @@ def _with_keys(parser: argparse.ArgumentParser) -> None:
     help_ = "count lines by key: read a key and a value from each, and add the value to the sketch of " \
         "its key, a file of DIRECTORY. Files that don't exist are made"
     parser.add_argument("--by-key", metavar="DIRECTORY", help=help_)
-    group = parser.add_argument_group("with --by-key")
+    help_ = "count lines by key, and keep all sketches in one file, an archive. It is made if it doesn't exist"
+    parser.add_argument("--archive", metavar="FILE", help=help_)
+    group = parser.add_argument_group("with --by-key or --archive")
     what = "the column of the %s: its number, or with --csv its name in the header (%d)"
     group.add_argument("--key", metavar="COLUMN", help=what % ("key", 1))
     group.add_argument("--value", metavar="COLUMN", help=what % ("value", 2))
@@ -215,10 +218,10 @@ def _with_keys(parser: argparse.ArgumentParser) -> None:
     group.add_argument("--csv", action="store_true", default=None, help=help_)
     help_ = "the most bytes of memory for sketches, also with K, M or G (1G)"
     group.add_argument("--memory", type=_memory, metavar="BYTES", help=help_)
-    help_ = "lines are sorted by key: write each file once its key has ended, and so use little memory"
+    help_ = "lines are sorted by key: write each file of --by-key once its key has ended, and so use little memory"
     group.add_argument("--sorted", action="store_true", default=None, help=help_)
-    group.add_argument("--lg-k", type=_lg_k, metavar="K", help="the lg_k of new files (12)")
-    help_ = "bits of a register of new files: 4, 6 or 8 (8)"
+    group.add_argument("--lg-k", type=_lg_k, metavar="K", help="the lg_k of new keys (12)")
+    help_ = "bits of a register of new keys: 4, 6 or 8 (8)"
     group.add_argument("--width", type=int, choices=(4, 6, 8), help=help_)
 
 
@@ -253,7 +256,8 @@ _MORE = {
     "merge": "Each rejected file is named, and then nothing is written, unless --skip-bad is given. "
     "Files of different lg_k are merged only with --lg-k. The width is that of the files, or 8 if "
     "they differ.",
-    "estimate": "With several files, the name of the file follows the numbers.",
+    "estimate": "With several files, the name of the file follows the numbers, and then the key of an "
+    "archive.",
     "check": "Nothing is printed for a file that is a sketch. An image has no checksum, so a flipped "
     "bit can give another sketch, which is not noticed.",
     "fold": "The result is the sketch that the same values make with that lg_k.",
@@ -263,7 +267,7 @@ _MORE = {
     "text too. So 7 is a text and not the integer 7, unless --as int is given. If another process "
     "holds the lock of FILE for ten seconds, nothing is added, unless --wait is given. With --by-key, a "
     "line is a key, a TAB and a value, and each key has a file of its own: KEY.hll, with bytes other than "
-    "letters, digits, '.', '_' and '-' written as %XX.",
+    "letters, digits, '.', '_' and '-' written as %XX. With --archive, all keys are in one file.",
 }
 
 
@@ -306,23 +310,31 @@ def _completed(parser: argparse.ArgumentParser) -> None:
 
 def _check_add(parser: argparse.ArgumentParser, options: argparse.Namespace) -> None:
     """Reports arguments of ``add`` that can't be combined."""
-    if options.by_key is not None:
+    if options.by_key is not None or options.archive is not None:
         _check_by_key(parser, options)
         return
     if options.file is None:
-        parser.error("add needs FILE, or --by-key DIRECTORY")
+        parser.error("add needs FILE, --by-key DIRECTORY or --archive FILE")
     if options.file == STANDARD:
         parser.error("standard input has the lines, so FILE can't be -")
     for name in _BY_KEY:
         if getattr(options, name) is not None:
-            parser.error(f"--{name.replace('_', '-')} goes with --by-key")
+            parser.error(f"--{name.replace('_', '-')} goes with --by-key or --archive")
 
 
 def _check_by_key(parser: argparse.ArgumentParser, options: argparse.Namespace) -> None:
-    """Reports arguments of ``add --by-key`` that can't be combined, and sets defaults."""
-    for name, given in (("FILE", options.file), ("-o", options.output)):
+    """Reports arguments of ``add`` with keys that can't be combined, and sets defaults."""
+    from .rows import Layout
+
+    which = "--by-key" if options.archive is None else "--archive"
+    other = options.by_key if options.archive is not None else None
+    for name, given in (("FILE", options.file), ("-o", options.output), ("--by-key", other)):
         if given is not None:
-            parser.error(f"{name} and --by-key don't go together: --by-key names the files after the keys")
+            parser.error(f"{name} and {which} don't go together")
+    if options.archive == STANDARD:
+        parser.error("an archive is a file, and can't be -")
+    if options.archive is not None and options.sorted:
+        parser.error("--sorted goes with --by-key")
     for name, default in _BY_KEY.items():
         if getattr(options, name) is None:
             setattr(options, name, default)

@@ -10,19 +10,21 @@ import sys
 from argparse import Namespace
 from contextlib import contextmanager, suppress
 from functools import partial
-from typing import TYPE_CHECKING, Any, BinaryIO, Callable, Dict, Iterator, List, Optional, Tuple
+from typing import TYPE_CHECKING, Any, BinaryIO, Callable, Dict, Iterable, Iterator, List
+from typing import Optional, Tuple, Union
 
 from . import _library
 from ._errors import ArgumentError
 from ._names import shown
 from .adding import LineError, Lines, LongLineError
-from .files import STANDARD, UNUSABLE, OutputTrouble, Trouble, bytes_of_file, check_output
-from .files import image_at, image_of_file, image_trouble, locked, of_file, write_file
+from .files import REFUSED, STANDARD, UNUSABLE, OutputTrouble, Trouble, bytes_of_file, check_output
+from .files import image_at, image_of_file, image_trouble, locked, of_bytes, of_file, write_file
 from .finding import Tell, found, names_in
 from .layout import STAGES, estimator_fields_of, flags_of, registers_of, size_of
 from .progress import Bar
 
 if TYPE_CHECKING:
+    from .archive import Archive
     from .by_key import Counters, Directory
 
 OK, DIFFER = 0, 1
@@ -184,17 +186,30 @@ def info(options: Namespace) -> int:
 
 
 def estimate(options: Namespace) -> int:
-    """Prints the estimates of images."""
+    """Prints the estimates of images, and of the images of archives."""
+    from .archive import entries_of_file, is_archive, name_of_entry
+
     records: List[Record] = []
 
-    def one(name: str) -> None:
-        facts = of_file(name, lambda image: summary(image, options.deviations or 2))
+    def put_one(facts: Record, **named: str) -> None:
         keys = ("estimate", "lower", "upper", "deviations")
-        records.append({"file": name, **{key: facts[key] for key in keys}})
+        records.append({**named, **{key: facts[key] for key in keys}})
         if not options.json:
             asked = keys[:1] if options.deviations is None else keys[:3]
             numbers = [plain_number(facts[key]) for key in asked]
-            put_line("\t".join(numbers if len(options.files) == 1 else [*numbers, shown(name)]))
+            names = list(map(shown, named.values()))
+            put_line("\t".join([*numbers, *(names[1:] if len(options.files) == 1 else names)]))
+
+    def facts_of(image: bytes) -> Record:
+        return summary(image, options.deviations or 2)
+
+    def one(name: str) -> None:
+        if not is_archive(name):
+            put_one(of_file(name, facts_of), file=name)
+            return
+        for key, image in entries_of_file(name):
+            facts = of_bytes(name_of_entry(name, key), image, facts_of)
+            put_one(facts, file=name, key=os.fsdecode(key))
 
     status = each(options.files, one)
     if options.json:
@@ -214,6 +229,27 @@ def named_files(options: Namespace, refuse: Tell) -> Iterator[str]:
         yield from found(names_in(options.files_from, options.null), refuse, say)
 
 
+def _faults_in(name: str) -> Iterator[Tuple[str, Trouble]]:
+    """Yields the reason and the error of a file that is not an image; of an archive, those of each image in
+    it that is none, and of the archive itself."""
+    from .archive import MAGIC, entries_of_file, name_of_entry
+
+    data = bytes_of_file(name)
+    images: Iterable[Tuple[str, bytes]] = [(name, data)]
+    if data.startswith(MAGIC):
+        images = ((name_of_entry(name, key), image) for key, image in entries_of_file(name))
+    try:
+        for which, image in images:
+            status = _library.check(image)
+            if status != _library.OK:
+                reason = _library.WORDS[status]
+                yield reason, image_trouble(which, reason)
+    except Trouble as trouble:
+        if trouble.status != REFUSED:
+            raise
+        yield trouble.words, trouble
+
+
 def check(options: Namespace) -> int:
     """Prints each file that is not an image, and why."""
     checked, refused = 0, []
@@ -228,16 +264,12 @@ def check(options: Namespace) -> int:
             checked += 1
             bar.more(1)
             try:
-                status = _library.check(bytes_of_file(name))
+                for reason, trouble in _faults_in(name):
+                    refused.append({"file": trouble.name, "reason": reason})
+                    if not options.json:
+                        put_line(trouble)
             except Trouble as trouble:
                 refuse(trouble)
-                continue
-            if status == _library.OK:
-                continue
-            reason = _library.WORDS[status]
-            refused.append({"file": name, "reason": reason})
-            if not options.json:
-                put_line(image_trouble(name, reason))
     if options.json:
         show({"checked": checked, "refused": refused})
     return _worst(troubles, DIFFER if refused else OK)
@@ -253,6 +285,8 @@ def merge(options: Namespace) -> int:
     from .merging import processors, union_of_files
 
     check_output(options.output, options.force)
+    if options.by_key:
+        return _merge_by_key(options)
     left_out: List[Trouble] = []
 
     def refuse(trouble: Trouble) -> None:
@@ -272,8 +306,49 @@ def merge(options: Namespace) -> int:
     image = finished(answer.image, options.plain)
     if options.lg_k is not None and image[3] < options.lg_k:
         say(f"merge: the result has lg_k {image[3]}, as a file has, and not {options.lg_k}")
-    skipped = [{"file": trouble.name, "reason": trouble.words} for trouble in left_out]
-    return put(options, image, merged=answer.merged, left_out=skipped)
+    return put(options, image, merged=answer.merged, left_out=_skipped(left_out))
+
+
+def _skipped(left_out: List[Trouble]) -> List[Record]:
+    """Returns what JSON shows of files that are left out."""
+    return [{"file": trouble.name, "reason": trouble.words} for trouble in left_out]
+
+
+def _merge_by_key(options: Namespace) -> int:
+    """Merges the sketches of each key of any number of archives. Each archive is read twice, and is left out
+    if it is not in order."""
+    from .archive import entries_of_file, pieces, union_of_archives
+
+    left_out: List[Trouble] = []
+    names: List[str] = []
+    keys = 0
+
+    def refuse(trouble: Trouble) -> None:
+        say(f"{trouble} (left out)" if options.skip_bad else trouble)
+        left_out.append(trouble)
+
+    def written() -> Iterator[Tuple[bytes, bytes]]:
+        nonlocal keys
+        merged = union_of_archives(names, options.lg_k or 0, options.width)
+        for keys, (key, image) in enumerate(merged, 1):
+            yield key, finished(image, options.plain)
+
+    for name in named_files(options, refuse):
+        try:
+            for _ in entries_of_file(name):
+                pass
+            names.append(name)
+        except Trouble as trouble:
+            refuse(trouble)
+    if left_out and not options.skip_bad:
+        return _worst(left_out, OK)
+    if not names:
+        raise Trouble("merge", "no archive is left to merge", _worst(left_out, UNUSABLE))
+    write_file(options.output, lambda: pieces(written()))
+    if options.json:
+        facts = {"keys": keys, "merged": len(names), "left_out": _skipped(left_out)}
+        show({"output": options.output, **facts})
+    return OK
 
 
 # ---- one image from another
@@ -314,7 +389,7 @@ def add(options: Namespace) -> int:
     values, and none waits for the input of another. It waits for the lock for ten seconds, or with
     ``--wait`` for as long as another process holds it.
     """
-    if options.by_key is not None:
+    if options.by_key is not None or options.archive is not None:
         return _add_by_key(options)
     if not os.path.lexists(options.file):
         raise Trouble(options.file, "No such file or directory (hll new makes it)", UNUSABLE)
@@ -362,32 +437,42 @@ def _lines_of_input(lg_k: int, are_ints: bool, longest: int) -> Lines:
 
 
 def _add_by_key(options: Namespace) -> int:
-    """Adds the values of standard input to the sketches of their keys, which are files of a directory."""
-    from .by_key import Counters, Directory
+    """Adds the values of standard input to the sketches of their keys, in a directory or an archive."""
+    from .by_key import Counters
 
-    directory = Directory(
-        options.by_key, options.lg_k, options.width, partial(finished, plain=options.plain),
-        options.force, say if options.wait else None,
-    )
-    counters = Counters(directory.begin, options.kind == "int", options.memory)
+    store = _store_of(options)
+    counters = Counters(store.begin, options.kind == "int", options.memory)
     try:
-        _count_by_key(options, counters, directory)
+        _count_by_key(options, counters, store)
         _warn_of_cr(counters.ending_in_cr)
-        with Bar("file", len(counters.images)) as bar:
-            directory.write_all(counters, sorted(counters.images), bar.more)
+        with Bar("key", len(counters.images)) as bar:
+            store.write_all(counters, sorted(counters.images), bar.more)
     except Trouble as trouble:
-        if not directory.written:
+        if not store.written:
             raise
-        done = "1 file is" if directory.written == 1 else f"{directory.written:,} files are"
+        done = "1 file is" if store.written == 1 else f"{store.written:,} files are"
         words = f"{trouble.words} ({done} written: add all lines again, and each counts once)"
         raise Trouble(trouble.name, words, trouble.status) from None
     if options.json:
-        facts = {"lines": counters.count, "keys": directory.written, "new": directory.made}
-        show({"output": options.by_key, **facts})
+        show({"output": store.path, "lines": counters.count, "keys": store.written, "new": store.made})
     return OK
 
 
-def _count_by_key(options: Namespace, counters: Counters, directory: Directory) -> None:
+def _store_of(options: Namespace) -> Union[Directory, Archive]:
+    """Returns where the sketches of keys are kept."""
+    from .archive import Archive
+    from .by_key import Directory
+
+    finish = partial(finished, plain=options.plain)
+    more = options.lg_k, options.width, finish, options.force, say if options.wait else None
+    if options.archive is not None:
+        return Archive(options.archive, *more)
+    return Directory(options.by_key, *more)
+
+
+def _count_by_key(
+    options: Namespace, counters: Counters, store: Union[Directory, Archive]
+) -> None:
     """Counts the values of standard input. If lines are sorted by key, this writes the file of each key but
     the last one, once lines of another key follow."""
     from .by_key import FullError
@@ -399,14 +484,14 @@ def _count_by_key(options: Namespace, counters: Counters, directory: Directory) 
                 counters.add(batch)
                 if options.sorted and batch.pairs:
                     last = batch.pairs[-1][0]
-                    directory.write_all(counters, [key for key in counters.images if key != last])
+                    store.write_all(counters, [key for key in counters.images if key != last])
                 bar.more(len(batch.pairs))
     except RowError as error:
         raise Trouble("standard input", f"line {error.number:,} {error.words}") from None
     except FullError as error:
         words = f"after line {error.number:,} the sketches of {error.keys:,} keys need more than " \
             f"{options.memory:,} bytes"
-        cure = "" if options.sorted else ", and --sorted needs one sketch at a time"
+        cure = "" if options.sorted else ", and --by-key with --sorted needs one sketch at a time"
         raise Trouble("standard input", f"{words} (--memory allows more{cure})") from None
 
 

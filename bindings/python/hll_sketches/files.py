@@ -10,13 +10,13 @@ import sys
 import time
 from contextlib import contextmanager, suppress
 from functools import partial
-from typing import Callable, Iterator, List, Optional, TypeVar
+from typing import Callable, Iterable, Iterator, List, Optional, TypeVar, Union
 
 from . import _library
 from ._errors import ImageError, explained
 from ._names import shown
 from ._signals import ENDING, held_back
-from .layout import size_of
+from .layout import ARCHIVE, size_of
 
 T = TypeVar("T")
 Read = Callable[[int], bytes]
@@ -139,7 +139,7 @@ def opened(path: str, flags: int) -> int:
 # ---- reading
 
 
-def _read_up_to(read: Read, most: int) -> bytes:
+def read_up_to(read: Read, most: int) -> bytes:
     """Returns ``most`` bytes, or fewer if the file ends."""
     first = read(most)
     pieces, rest = [first], most - len(first)
@@ -152,14 +152,14 @@ def _read_up_to(read: Read, most: int) -> bytes:
 def read_image(read: Read) -> bytes:
     """Returns the bytes of an image, maybe followed by a few others. ``read`` returns at most the number
     of bytes that it is given, and none at the end of the file."""
-    data = _read_up_to(read, PIECE)
+    data = read_up_to(read, PIECE)
     if len(data) < PIECE:
         return data
     more = size_of(data) - PIECE
-    return data + _read_up_to(read, more) if more > 0 else data
+    return data + read_up_to(read, more) if more > 0 else data
 
 
-def _opened_to_read(path: str) -> int:
+def opened_to_read(path: str) -> int:
     """Opens a file. A file that was found in a folder has to be a plain file still."""
     if not isinstance(path, FoundName):
         return opened(path, os.O_RDONLY)
@@ -181,7 +181,7 @@ def read_path(path: str) -> bytes:
         If the file can't be read.
     """
     with _named_in_errors(path):
-        place = _opened_to_read(path)
+        place = opened_to_read(path)
         try:
             return read_image(partial(os.read, place))
         finally:
@@ -215,10 +215,22 @@ def of_file(name: str, call: Callable[[bytes], T]) -> T:
     Trouble
         If the file can't be read, or is no image.
     """
-    data = bytes_of_file(name)
+    return of_bytes(name, bytes_of_file(name), call)
+
+
+def of_bytes(name: str, data: bytes, call: Callable[[bytes], T]) -> T:
+    """Returns what a call of the library returns for bytes, which errors call by a name.
+
+    Raises
+    ------
+    Trouble
+        If the bytes are no image.
+    """
     try:
         return call(data)
     except ImageError as error:
+        if data.startswith(ARCHIVE):
+            raise Trouble(name, "an archive, and not an image (estimate, merge and check read archives)") from None
         raise image_trouble(name, error.reason) from None
 
 
@@ -254,14 +266,19 @@ _NO_LINKS = (errno.EPERM, errno.ENOSYS, errno.ENOTSUP, errno.EOPNOTSUPP)
 """The errors of a file system that has no hard links."""
 
 
-def _write_all(place: int, data: bytes) -> None:
+Data = Union[bytes, Callable[[], Iterable[bytes]]]
+"""What is written: bytes, or a call that returns them in pieces, which may be called again."""
+
+
+def _write_all(place: int, data: Data) -> None:
     """Writes all bytes."""
-    rest = memoryview(data)
-    while rest:
-        rest = rest[os.write(place, rest) :]
+    for piece in [data] if isinstance(data, bytes) else data():
+        rest = memoryview(piece)
+        while rest:
+            rest = rest[os.write(place, rest) :]
 
 
-def _write_standard(data: bytes) -> None:
+def _write_standard(data: Data) -> None:
     """Writes to standard output, after what was printed."""
     try:
         if sys.stdout is not None:
@@ -330,7 +347,7 @@ def _keep_owner_and_mode(place: int, before: os.stat_result) -> None:
     os.fchmod(place, stat.S_IMODE(before.st_mode) & ~(stat.S_ISUID | stat.S_ISGID))
 
 
-def _fill(place: int, data: bytes, before: Optional[os.stat_result]) -> None:
+def _fill(place: int, data: Data, before: Optional[os.stat_result]) -> None:
     """Writes a file and syncs it to disk."""
     if before is not None:
         _keep_owner_and_mode(place, before)
@@ -383,7 +400,7 @@ Rename = Callable[[str, str], None]
 
 
 def _replace_by_link(
-    path: str, data: bytes, before: Optional[os.stat_result], rename: Rename
+    path: str, data: Data, before: Optional[os.stat_result], rename: Rename
 ) -> bool:
     """Writes a file that has no name until it is complete, so no incomplete file is left. Returns False
     if the system can't do this."""
@@ -403,7 +420,7 @@ def _replace_by_link(
 
 
 def _replace_by_name(
-    path: str, data: bytes, before: Optional[os.stat_result], rename: Rename
+    path: str, data: Data, before: Optional[os.stat_result], rename: Rename
 ) -> None:
     """Writes a file under another name first. Signals are delayed until it is written."""
     with _temporary(path) as temporary:
@@ -431,14 +448,14 @@ def sync_folder(folder: str) -> None:
 
 
 def _replace(
-    path: str, data: bytes, before: Optional[os.stat_result], rename: Rename = _rename_over
+    path: str, data: Data, before: Optional[os.stat_result], rename: Rename = _rename_over
 ) -> None:
     """Replaces the file at a path, once the new file is complete and on disk. The name is not on disk yet."""
     if not _replace_by_link(path, data, before, rename):
         _replace_by_name(path, data, before, rename)
 
 
-def _write_into(path: str, data: bytes) -> None:
+def _write_into(path: str, data: Data) -> None:
     """Writes into a pipe or a device."""
     place = os.open(path, os.O_WRONLY | os.O_CLOEXEC)
     try:
@@ -449,7 +466,7 @@ def _write_into(path: str, data: bytes) -> None:
         os.close(place)
 
 
-def write_path(name: str, data: bytes, sync_names: bool = True) -> None:
+def write_path(name: str, data: Data, sync_names: bool = True) -> None:
     """Writes a whole file, or leaves it unchanged. The file keeps its owner and its mode.
 
     Without ``sync_names``, the caller has to call ``sync_folder`` for the folder of the file.
@@ -481,7 +498,7 @@ def _reported_of(name: str) -> Iterator[None]:
         raise Trouble(name, "no name of a file", UNUSABLE) from None
 
 
-def write_file(name: str, data: bytes, sync_names: bool = True) -> None:
+def write_file(name: str, data: Data, sync_names: bool = True) -> None:
     """Does what ``write_path`` does; ``-`` is standard output.
 
     Raises
@@ -496,7 +513,7 @@ def write_file(name: str, data: bytes, sync_names: bool = True) -> None:
         write_path(name, data, sync_names)
 
 
-def create_file(name: str, data: bytes) -> bool:
+def create_file(name: str, data: Data) -> bool:
     """Writes a whole new file. Its name is not on disk until ``sync_folder`` is called.
 
     Returns

@@ -7,6 +7,9 @@ from typing import List
 
 from . import _library
 
+ARCHIVE = b"\x89HLLKEY\n"
+"""How an archive begins (docs/FORMAT.md, "Archives"), and no image."""
+
 STAGES = ("list", "set", "registers")
 HEADER = 40
 """The size of a header with estimator fields and counts; the header of a list or a set is shorter."""

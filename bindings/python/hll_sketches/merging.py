@@ -21,6 +21,7 @@ from ._errors import ArgumentError, FilesError, HllError, ImageError, PrecisionE
 from ._names import shown
 from ._state import BATCH_BYTES, State
 from ._workers import WorkerLost, Workers
+from .archive import MAGIC, entries_of_file, name_of_entry
 from .files import STANDARD, UNUSABLE, Trouble, bytes_of_file, image_trouble
 from .finding import found
 from .layout import holds_values
@@ -88,12 +89,26 @@ class _Files:
         self._bytes = 0
 
     def take(self, name: str) -> None:
-        """Reads a file into the batch."""
+        """Reads a file into the batch, or all images of an archive."""
+        for which, image in self._images_of(name):
+            self._take_image(which, image)
+
+    def _images_of(self, name: str) -> Iterable[Tuple[str, bytes]]:
+        """Returns the image of a file, or the images of an archive once all of it is found to be in order,
+        with their names; none for a file that can't be read."""
         try:
             image = bytes_of_file(name)
+            if not image.startswith(MAGIC):
+                return [(name, image)]
+            for _ in entries_of_file(name):
+                pass
         except Trouble as trouble:
             self.troubles.append(trouble)
-            return
+            return []
+        return ((name_of_entry(name, key), image) for key, image in entries_of_file(name))
+
+    def _take_image(self, name: str, image: bytes) -> None:
+        """Puts an image into the batch."""
         self._names.append(name)
         self._images.append(image)
         self._bytes += len(image)

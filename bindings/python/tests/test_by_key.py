@@ -222,7 +222,7 @@ class ByKeyTest(CommandTest):
              ["--longest-line", "4"]),
             (b'k,v\na,"y\n', 1, f"{words} 2 is not CSV: unexpected end of data", ["--csv"]),
             (b"a\ty\nc\tz\nb\tz\n", 1, "standard input: after line 3 the sketches of 3 keys need more than "
-             "512 bytes (--memory allows more, and --sorted needs one sketch at a time)", ["--memory", "512"]),
+             "512 bytes (--memory allows more, and --by-key with --sorted needs one sketch at a time)", ["--memory", "512"]),
             (b"a\ty\nbad\tz\n", 1, f"keys/bad.hll: {TRUNCATED}", []),
             (b"a\ty\nfolder\tz\n", 2, "keys/folder.hll: No plain file any more, as it was when its folder "
              "was read", []),
@@ -321,11 +321,11 @@ class ByKeyTest(CommandTest):
 
     def test_wrong_command_lines(self):
         for words, err in (
-            ([], "add needs FILE, or --by-key DIRECTORY"),
+            ([], "add needs FILE, --by-key DIRECTORY or --archive FILE"),
             (["a.hll", "--by-key", "keys"], "FILE and --by-key don't go together"),
             (["--by-key", "keys", "-o", "a.hll"], "-o and --by-key don't go together"),
-            (["a.hll", "--csv"], "--csv goes with --by-key"),
-            (["a.hll", "--lg-k", "9"], "--lg-k goes with --by-key"),
+            (["a.hll", "--csv"], "--csv goes with --by-key or --archive"),
+            (["a.hll", "--lg-k", "9"], "--lg-k goes with --by-key or --archive"),
             (["--by-key", "keys", "--key", "name"], "argument --key: without --csv, a column is a number"),
             (["--by-key", "keys", "--value", "0"], "argument --value: without --csv, a column is a number"),
             (["--by-key", "keys", "--separator", ""], "argument --separator: a separator has one byte"),
