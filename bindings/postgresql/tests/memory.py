@@ -128,7 +128,7 @@ def groups_memory(server):
 def refused_memory(server):
     """Where the library's malloc is refused, the error is 53200, and the session goes on as before."""
     server.ask("CREATE TABLE huge AS SELECT hll_image_add_agg(x, 21) image FROM generate_series(1, 400000) x")
-    query = "SELECT md5(hll_image_union_agg(image, 20, 6)) FROM huge, generate_series(1, 3);"
+    query = "SELECT md5(hll_image_union_agg(hll_fold(image, 20), 20, 6)) FROM huge, generate_series(1, 3);"
     with Session(server) as session:
         wanted = session.ask(query)
         contexts = session.contexts()
