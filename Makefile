@@ -10,6 +10,7 @@
 #                           rt, and takes 10 to 25 minutes on four processors
 #   make dist               makes all packages of a release in dist/ (docs/INSTALL.md)
 #   make html               makes these pages as a site in dist/html. It needs pandoc
+#   make page               makes dist/hll.html, a page that opens images in a browser. It needs Python
 #   make check              tests everything: ./check
 #   make clean              removes what the others built
 #
@@ -26,12 +27,13 @@ endif
 ifneq ($(wildcard $(addsuffix /postgres.h,$(shell $(PG_CONFIG) --includedir-server 2>/dev/null))),)
 POSTGRESQL := bindings/postgresql
 endif
-PARTS := bindings/c programs $(SQLITE)
+# In this order, so that the last lines of `make install` are those of the C library: what is left to do.
+PARTS := programs $(SQLITE) bindings/c
 # Asked once for all parts, unless a source has changed: then the first part proves, and the next one asks again.
 STATE := $(filter fresh,$(shell scripts/prebuilt.sh state))
 FOUND := $(STATE:%=STATE=%)
 
-.PHONY: all install uninstall install-postgresql uninstall-postgresql prove dist html check clean
+.PHONY: all install uninstall install-postgresql uninstall-postgresql prove dist html page check clean
 
 all clean:
 	set -e; for part in $(PARTS) $(POSTGRESQL); do $(MAKE) -C $$part $@ $(FOUND); done
@@ -53,6 +55,9 @@ dist:
 
 html:
 	python3 scripts/make_html.py
+
+page:
+	python3 bindings/javascript/page/build.py dist/hll.html
 
 check:
 	./check

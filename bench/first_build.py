@@ -6,7 +6,7 @@ meanwhile.
 
     bench/first_build.py [--prove] [COMMIT]
 
-docs/NUMBERS.md, "Proofs", has what it printed.
+docs/NUMBERS.md, "Building", has what it printed.
 """
 import pathlib
 import resource

@@ -6,7 +6,7 @@ of must-fail/, its tests, the mutants of mutants/, and prebuilt/.
     bench/gate_costs.py [COMMAND ..]        rt ci, if no command is given; ./check for the whole gate
 
 It looks once a second at the processes of the prover that the command has started, so what ends within a second is missed. It
-takes as long as the command, whose lines go to standard error. docs/NUMBERS.md, "Proofs", has what it printed.
+takes as long as the command, whose lines go to standard error. CONTRIBUTING.md, "What the gate takes", has what it printed.
 """
 import collections
 import os

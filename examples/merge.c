@@ -40,16 +40,18 @@ static void write_file(const char *name, size_t len)
 int main(int argc, char **argv)
 {
     hll_estimation found;
+    hll_state_summary summary;
     size_t size;
     int i;
 
     if (argc < 3)
         end_with(argv[0], "usage: merge OUT FILE..");
-    need(hll_state_new(4, state, sizeof state), argv[0]); /* it takes the lg_k of the first sketch with values */
+    need(hll_state_new(0, state, sizeof state), argv[0]); /* it takes the lg_k of the first sketch with values */
     for (i = 2; i < argc; i++)
         need(hll_state_join(0, state, sizeof state, &size, file, read_file(argv[i])), argv[i]);
     need(hll_state_estimate(state, sizeof state, &found), argv[0]);
-    need(hll_state_image(state, sizeof state, hll_state_width(state), file, sizeof file, &size), argv[0]);
+    need(hll_state_info(state, sizeof state, &summary, sizeof summary), argv[0]);
+    need(hll_state_image(state, sizeof state, summary.width, file, sizeof file, &size), argv[0]);
     write_file(argv[1], size);
     printf("%.0f distinct values; with 95%% certainty %.0f to %.0f\n", found.estimate, found.lower[1], found.upper[1]);
     return 0;

@@ -1,7 +1,7 @@
 #!/usr/bin/env python3
 # SPDX-License-Identifier: Apache-2.0
-"""Makes all packages of a release in dist/: a source package, Debian packages, wheels, the prover's verdict, META.json, TRUST.md,
-a bill of materials of each, and SHA256SUMS. `make dist` calls it, in a checkout of git.
+"""Makes all packages of a release in dist/: a source package, Debian packages, wheels, a package for npm, the page that opens images,
+the prover's verdict, META.json, TRUST.md, a bill of materials of each, and SHA256SUMS. `make dist` calls it, in a checkout of git.
 
 Everything is built from prebuilt/, by a C compiler, binutils, Python and Debian's tools, in a folder of its own without the
 command rt on the path. So what the gate tests is what is shipped. Two runs over one commit give the same bytes, wherever they
@@ -130,13 +130,8 @@ def put_sources(dist):
     files = {name: (ROOT / name).read_bytes() for name in output("git", "ls-files", "-z").split("\0") if name and (ROOT / name).is_file()}
     files.update((str(path.relative_to(ROOT)), path.read_bytes()) for path in rows.texts())     # the walks, which a script makes
     files.update({"META.json": meta().encode(), "debian/changelog": changelog().encode(), "debian/control": control().encode()})
-    with open(dist / ("%s-%s.tar.gz" % (NAME, version())), "wb") as raw, gzip.GzipFile("", "wb", 9, raw, epoch()) as packed, \
-            tarfile.open(fileobj=packed, mode="w", format=tarfile.GNU_FORMAT) as tar:
-        for name in sorted(files):
-            entry = tarfile.TarInfo("%s-%s/%s" % (NAME, version(), name))
-            entry.size, entry.mtime = len(files[name]), epoch()
-            entry.mode = 0o755 if os.access(ROOT / name, os.X_OK) else 0o644
-            tar.addfile(entry, io.BytesIO(files[name]))
+    top = "%s-%s/" % (NAME, version())
+    put_tar(dist / (top[:-1] + ".tar.gz"), {top + name: data for name, data in files.items()}, {top + name for name in files if os.access(ROOT / name, os.X_OK)})
     (dist / "META.json").write_text(meta())
 
 
@@ -165,10 +160,31 @@ def put_wheel(dist, room, target):
     is_other = target.partition("-")[0] != os.uname().machine
     run(["make", "-s", "-C", "bindings/c", "all", "CFLAGS=-O2"] + ["TARGET=" + target] * is_other, tree)
     library = tree / "bindings" / "c" / "build" / (target if is_other else "") / "libhll.so"
+    run([PYTHON, "-B", "scripts/links.py", "--installed", "bindings/python"], tree)      # the README describes the wheel, alone
     run([PYTHON, "-m", "pip", "wheel", "-q", "--no-build-isolation", "--no-deps", "--no-index", "--no-cache-dir", "-w", room / "wheels",
          tree / "bindings" / "python"], tree, LIBHLL=str(library), PYTHONDONTWRITEBYTECODE="1")
     for wheel in (room / "wheels").iterdir():
         shutil.copyfile(wheel, dist / wheel.name)
+
+
+def put_tar(file, files, executable=()):
+    """Writes a compressed archive of files, by their names, dated by the commit."""
+    with open(file, "wb") as raw, gzip.GzipFile("", "wb", 9, raw, epoch()) as packed, \
+            tarfile.open(fileobj=packed, mode="w", format=tarfile.GNU_FORMAT) as tar:
+        for name in sorted(files):
+            entry = tarfile.TarInfo(name)
+            entry.size, entry.mtime = len(files[name]), epoch()
+            entry.mode = 0o755 if name in executable else 0o644
+            tar.addfile(entry, io.BytesIO(files[name]))
+
+
+def put_javascript(dist, room):
+    """The package for npm, and the page that opens images, from the source package."""
+    tree = unpacked(dist, room)
+    run([PYTHON, "-B", "bindings/javascript/page/build.py", dist / "hll.html"], tree)
+    run([PYTHON, "-B", "scripts/links.py", "--installed", "bindings/javascript"], tree)     # the README describes the package, alone
+    run(["bindings/javascript/stage", room / "package"], tree)
+    put_tar(dist / ("%s-%s.tgz" % (NAME, version())), {"package/" + file.name: file.read_bytes() for file in (room / "package").iterdir()})
 
 
 def put_sums(dist):
@@ -189,6 +205,7 @@ def make():
         put_debian(dist, room / "debian")
         for target in (prebuilt.X86, prebuilt.ARM):
             put_wheel(dist, room / target, target)
+        put_javascript(dist, room / "javascript")
         (dist / "TRUST.md").write_text(trust.table() + "\n")
         sbom.put(dist, version(), epoch())
         put_sums(dist)

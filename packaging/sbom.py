@@ -10,7 +10,7 @@ import uuid
 import prebuilt
 
 LICENCE = "Apache-2.0"
-KINDS = {".deb": "INSTALL", ".whl": "LIBRARY", ".gz": "SOURCE"}
+KINDS = {".deb": "INSTALL", ".whl": "LIBRARY", ".gz": "SOURCE", ".tgz": "LIBRARY", ".html": "APPLICATION"}
 # The Rattle crate hex, a port of Rust's, which both programs contain, and functions of the toolchain's own libraries.
 HEX = ("hex", "0.4.3", "MIT OR Apache-2.0", "the crate that decodes and encodes digits, as the toolchain ports it")
 RUNTIME = ("rattle-runtime", "NOASSERTION", "NOASSERTION", "functions of the toolchain's libraries core and std_alloc, for which it shows no licence (NOTICE)")
@@ -52,6 +52,8 @@ def texts_in(package):
     """The paths in prebuilt/ of the texts that a package holds, or what was built from them."""
     if package.suffix == ".gz":
         return sorted(prebuilt.committed().files)
+    if package.suffix in (".tgz", ".html"):
+        return [prebuilt.WASM]
     if package.suffix == ".whl":
         return [re.search("x86_64|aarch64", package.name)[0] + "/libhll_c.s"]
     if package.name.startswith("hll-sketches_"):
@@ -65,7 +67,8 @@ def contents(package):
     texts = texts_in(package)
     for path in texts:
         checksums = [{"algorithm": "SHA256", "checksumValue": verdict.files[path]}]
-        yield part("prebuilt-" + path.replace("/", "-"), verdict.sources[:12], checksums=checksums, comment="proved: " + verdict.said[path][-1])
+        comment = verdict.wasm if path == prebuilt.WASM else "proved: " + verdict.said[path][-1]
+        yield part("prebuilt-" + path.replace("/", "-"), verdict.sources[:12], checksums=checksums, comment=comment)
     others = [RUNTIME] * bool(texts) + [HEX] * any("hll_merge" in path or "hll_estimator_fields" in path for path in texts)
     yield from (part(name, version, licence, comment=comment) for name, version, licence, comment in others)
 
@@ -74,6 +77,8 @@ def tools(package):
     """What built it: the prover, whose compiler made the text, and what assembled and packed it."""
     kit, _, logic = prebuilt.committed().prover.partition(" logic ")
     yield part(kit, logic, "NOASSERTION", comment="proves the crates, and compiles them to the text of prebuilt/")
+    if package.suffix in (".tgz", ".html"):
+        yield part("binaryen", prebuilt.committed().wasm.rpartition(" ")[2], comment="lowers the module to a 32-bit memory, and optimizes it")
     python = ["/usr/bin/python3", "-c", "import sys, importlib; print(importlib.import_module(sys.argv[1]).__version__)"]
     asked = {"aarch64-linux-gnu-gcc" if "aarch64" in package.name else "gcc": ["-dumpfullversion"], "as": ["--version"], "ld": ["--version"]}
     asked = {name: [name, *words] for name, words in asked.items() if not package.name.endswith("_all.deb")}

@@ -6,12 +6,12 @@
 
 names     Files and sections that a page or a source names are there; a block after "From `FILE`:" is in that file; names in
           backticks are in the sources, and on the pages for reviewers are declared there; a clause is one of the function
-          that it is said of; commands name programs, parts and options that there are; tables that are made from the sources
-          are up to date (scripts/tables.py); the speeds in README.md are in docs/NUMBERS.md.
-words     Pages, documentation and messages keep to the words of docs/FORMAT.md (scripts/wording.py).
+          that it is said of; commands name programs, parts and options that there are; the speeds in README.md are in
+          docs/NUMBERS.md; CITATION.cff has the version of hll.h.
+words     Pages, documentation and messages keep to the words of scripts/words.txt (scripts/wording.py).
 commands  The blocks of README.md run as they are, in a folder without a reader's files, and print what a line `#> ..` after
-          them says; so do commands of CALLING.md, SECURITY.md, docs/PLAN.md, docs/PROVED.md and docs/OPERATING.md, by
-          tests/scale.py where they need an engine.
+          them says; so do commands of bindings/c/README.md, SECURITY.md, docs/PLAN.md, docs/PROVED.md and
+          docs/OPERATING.md, by tests/scale.py where they need an engine.
 plans     The program prints what docs/FAULTS.md says of its plans.
 
 Commands and plans need the programs in bin/ (make -C programs); commands build the library where it is not up to date.
@@ -34,7 +34,7 @@ ROOT = pathlib.Path(__file__).resolve().parent.parent
 
 # On these pages each name in backticks is declared in a crate, but for those that are others'.
 DECLARED = {
-    "PROVED.md": {"dac8208d650f15bf", "hex", "hll", "linked_list_allocator", "memchr"},
+    "PROVED.md": {"dac8208d650f15bf", "pshufb", "pmaddubsw", "pmaddwd", "hex", "hll", "linked_list_allocator", "memchr"},
     "MODEL.md": set(),
 }
 # What the command rt does.
@@ -42,9 +42,11 @@ TOOLCHAIN = {"check", "ci", "doc", "lib", "must-fail", "plant", "run", "test", "
 # Names that are not the project's.
 KNOWN = {"as_chunks_mut", "current_date", "postgres_fdw", "async_capable", "CURRENT_DATE",
          "hll_sketch_alloc", "get_allocator",      # of datasketches-cpp
+         "large_string", "to_parquet",             # of pyarrow and pandas
+         "hll_sketch_agg", "stringEncoding",       # of Spark and Druid
          "hll_sketch_build", "hll_sketch_union", "hll_sketch_get_estimate", "hll_sketch_get_estimate_and_bounds"}
 SKIPPED_FOLDERS = {"out", "build", "dist", ".git", "target", "__pycache__"}
-SOURCES = {".rt", ".antt", ".py", ".c", ".h", ".cpp", ".hpp", ".sh", ".sql", ".rs", ".edit", ".map", ".control", ".toml", ".txt", ".plan", ".cmake", ".go", ""}
+SOURCES = {".rt", ".antt", ".py", ".c", ".h", ".cpp", ".hpp", ".sh", ".sql", ".rs", ".edit", ".map", ".control", ".toml", ".txt", ".plan", ".cmake", ".go", ".mjs", ".mts", ".html", ""}
 # These pages speak of another library's names.
 OTHERS = {"DIFFERENCES.md", "FAULTS.md", "OTHER_LANGUAGES.md"}
 # Not run: the check itself, and what installs packages of a release.
@@ -143,7 +145,7 @@ def faults_of_files(page, text):
 
 def comments_of(path):
     """The lines of a source that can name a page: those of its comments, joined as one text."""
-    marks = {".rt": "//", ".antt": "--", ".c": r"\*", ".h": r"\*", ".rs": "//", ".cpp": "//", ".hpp": "//", ".sql": "--"}.get(path.suffix, "#?")
+    marks = {".rt": "//", ".antt": "--", ".c": r"\*", ".h": r"\*", ".rs": "//", ".cpp": "//", ".hpp": "//", ".mjs": "//", ".mts": "//", ".sql": "--"}.get(path.suffix, "#?")
     return " ".join(re.sub(rf"^\s*(?:{marks}[/!]*)\s?", "", line) for line in path.read_text(errors="ignore").splitlines())
 
 
@@ -167,6 +169,13 @@ def faults_of_numbers():
     for number in re.findall(r"\d{1,3}(?:,\d{3})+|\d+\.\d+", section):
         if number not in known:
             yield f"README.md: docs/NUMBERS.md doesn't have {number}"
+
+
+def faults_of_citation():
+    """A version of CITATION.cff that is not the library's."""
+    version = ".".join(re.findall(r"^#define HLL_VERSION_[A-Z]+ (\d+)$", (ROOT / "bindings/c/hll.h").read_text(), re.M))
+    if f"\nversion: {version}\n" not in (ROOT / "CITATION.cff").read_text():
+        yield f"CITATION.cff: the version is not {version}"
 
 
 def faults_of_quotes(page, text):
@@ -360,7 +369,7 @@ def parts_of_check():
 def has_test(part, word):
     """Whether a folder of bindings/ has a test with this word in its name, as far as its files tell."""
     return any(word in path.stem or word in path.read_text("utf-8", "replace")
-               for path in (ROOT / "bindings" / part).rglob("*") if path.is_file() and path.suffix in (".py", ".sh", ".c", ".cpp", ".rs"))
+               for path in (ROOT / "bindings" / part).rglob("*") if path.is_file() and path.suffix in (".py", ".sh", ".c", ".cpp", ".rs", ".mjs"))
 
 
 def faults_of_others(code):
@@ -413,12 +422,10 @@ def check_names():
         for fault in sorted(faults):
             print(f"{page.relative_to(ROOT)}: {fault}")
         failed += bool(faults)
-    of_sources = [*faults_of_sources(), *faults_of_numbers()]
+    of_sources = [*faults_of_sources(), *faults_of_numbers(), *faults_of_citation()]
     print("".join(fault + "\n" for fault in of_sources), end="")
-    made = subprocess.run([sys.executable, "-B", ROOT / "scripts" / "tables.py", "check"], capture_output=True, text=True)
-    print(made.stdout if made.returncode else "", end="")
-    failed += bool(of_sources) + bool(made.returncode)
-    return len(pages()) + 2 - failed, failed
+    failed += bool(of_sources)
+    return len(pages()) + 1 - failed, failed
 
 
 # ---- commands
@@ -495,7 +502,7 @@ def run_scale():
 
 def check_commands():
     """One test for each command of the pages for users."""
-    results = run_page("README.md") + run_page("CALLING.md", "cat >") + run_page("SECURITY.md", "hll ")
+    results = run_page("README.md") + run_page("bindings/c/README.md", "cat >") + run_page("SECURITY.md", "hll ")
     results += run_page("docs/PLAN.md", ("bin/", "printf ")) + run_page("docs/PROVED.md", "printf ")
     results += run_page("docs/OPERATING.md", ("hll ", "printf "), "mkdir sketches && hll new sketches/1.hll") + run_scale()
     return results.count(True), results.count(False)

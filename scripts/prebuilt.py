@@ -1,10 +1,13 @@
 #!/usr/bin/env python3
 # SPDX-License-Identifier: Apache-2.0
-"""Makes prebuilt/: assembler text of the proved library and programs, with the prover's verdict (prebuilt/README.md).
+"""Makes prebuilt/: assembler text of the proved library and programs, with the prover's verdict, and the library as a WebAssembly
+module (prebuilt/README.md).
 
     scripts/prebuilt.py            after `rt ci`: makes the text again from what was proved, and compares it with prebuilt/
     scripts/prebuilt.py --prove    the same after proving the library and the programs by `rt lib`
     scripts/prebuilt.py --write    writes prebuilt/ whatever is there
+    scripts/prebuilt.py --wasm     makes only hll.wasm again, where its C files have changed, in under a minute: from what an earlier
+                                   run on this machine kept of the same proved sources
 
 The last line is 'N passed, M failed'. Where a source has changed, prebuilt/ is written again; under CI=true that is a failure,
 as the commit should have had it. Another toolchain than the one that VERDICT names may give other text for the same sources:
@@ -12,13 +15,18 @@ then a line says so, and tests run over what that toolchain builds instead (bind
 
 `rt ci` leaves the libraries with their statements alone, and `rt lib` over these would prove everything again. So this script
 calls the toolchain's own command by the arguments that rt gives it: `rattle check` proves the crate over its libraries, and
-`rattle build` compiles what was proved. Its compiler is replaced by a script that also keeps the assembler text.
+`rattle build` compiles what was proved. Its compiler is replaced by a script that also keeps the assembler text and LLVM's module.
+
+prebuilt/wasm/hll.wasm is compiled from LLVM's module of the library (scripts/retarget.py), and linked with C files by binaryen.
+Other versions of binaryen may give other bytes: then it is not compared, and a line says so.
 """
 import dataclasses
+import functools
 import hashlib
 import os
 import pathlib
 import re
+import shutil
 import subprocess
 import sys
 import tempfile
@@ -27,6 +35,7 @@ from concurrent.futures import ThreadPoolExecutor
 sys.dont_write_bytecode = True
 sys.path.insert(0, str(pathlib.Path(__file__).resolve().parent))
 import prover  # noqa: E402
+import retarget  # noqa: E402
 
 ROOT = pathlib.Path(__file__).resolve().parent.parent
 PREBUILT = ROOT / "prebuilt"
@@ -42,8 +51,13 @@ OTHER_TOOLCHAIN = OTHERS / "other-toolchain.s"
 OTHER_ARCHIVE = OTHERS / "other-toolchain.a"
 NEED = 4_000_000_000    # bytes of memory that one proof takes at most, with its jobs
 KEPT = " incremental=trusted"       # in the prover's last line: a library was proved over what an earlier check had kept
-# Takes the place of clang: compiles as asked, and where that gives an object file, writes the same code as assembler text too.
+# The module for JavaScript, and the script that links it.
+WASM = "wasm/hll.wasm"
+LINK = ROOT / "bindings" / "javascript" / "wasm" / "build.sh"
+# Takes the place of clang: compiles as asked, and where that gives an object file, writes the same code as assembler text too. It
+# keeps LLVM's module, from which hll.wasm is compiled.
 CLANG = """#!/bin/sh
+for word; do case $word in *.bc) cp "$word" '@TEXT@.bc';; esac; done
 '@CLANG@' "$@" || exit
 for word; do [ "$word" != -emit-llvm ] || exit 0; done
 exec '@CLANG@' "$@" -Wno-unused-command-line-argument -fno-addrsig -fno-verbose-asm -S -o '@TEXT@'
@@ -81,9 +95,11 @@ class Verdict:
     sources: str
     said: dict
     files: dict
+    wasm: str = ""      # how hll.wasm was made: checksum of the C files and scripts, version of binaryen
 
     def text(self):
         lines = ["prover: %s" % self.prover, "sources: %s" % self.sources]
+        lines += ["wasm: %s" % self.wasm] * (self.wasm != "")
         lines += ["%s: %s" % (path, line) for path, said in sorted(self.said.items()) for line in said]
         lines += ["file: %s  %s" % (self.files[path], path) for path in sorted(self.files)]
         above = "".join(line + "\n" for line in lines)
@@ -97,7 +113,7 @@ def committed():
     found = Verdict("", "", {}, {})
     for line in VERDICT.read_text().splitlines():
         name, _, rest = line.partition(": ")
-        if name in ("prover", "sources"):
+        if name in ("prover", "sources", "wasm"):
             setattr(found, name, rest)
         elif name == "file":
             found.files[rest.split()[1]] = rest.split()[0]
@@ -107,7 +123,7 @@ def committed():
 
 
 def asked(word):
-    """Returns what scripts/prebuilt.sh prints for a word: `sum` or `state`."""
+    """Returns what scripts/prebuilt.sh prints for a word: `sum`, `state`, `wasm-sum` or `wasm`."""
     return subprocess.run([ROOT / "scripts" / "prebuilt.sh", word], capture_output=True, text=True, check=True).stdout.strip()
 
 
@@ -220,6 +236,18 @@ def said_of(lines):
     return [line for line in lines if line.startswith("axioms ")] + [lines[-1].replace(KEPT, "")]
 
 
+def module_for(target):
+    """Returns the path at which LLVM's module of the library is kept."""
+    return OTHERS / ("hll_c-%s.bc" % target.partition("-")[0])
+
+
+def keep_module(file, target):
+    """Keeps LLVM's module of the library, with the checksum of the sources that it was made of."""
+    OTHERS.mkdir(exist_ok=True)
+    shutil.copyfile(file, module_for(target))
+    module_for(target).with_suffix(".sources").write_text(asked("sum"))
+
+
 def made(rtlib, text, jobs):
     """Proves a text's crate for its processor and compiles it. Returns the text, and what VERDICT has of the prover's lines."""
     crate = rtlib.Crate(str(ROOT / "crates" / text.crate), str(ROOT), {}, name=None)
@@ -234,8 +262,9 @@ def made(rtlib, text, jobs):
         call(rtlib, text.crate, "build", *words, "--toolchain", str(tools), "--backend", "llvm", "-o", str(room / "built"))
         if not kept.is_file():
             raise Unknown("the compiler of the toolchain was not called as clang")
+        if text.name == "libhll_c":
+            keep_module(str(kept) + ".bc", text.target)
         if (text.name, text.target) == ("libhll_c", X86):
-            OTHERS.mkdir(exist_ok=True)
             call(rtlib, text.crate, "build", *words, "--toolchain", str(pathlib.Path(rtlib.KIT, "toolchain")), "--backend", "rattle",
                  "-o", str(OTHER_COMPILER))
         return with_plain_names(with_stable_labels(kept.read_text())), said_of(lines)
@@ -246,16 +275,77 @@ def kit():
     return prover.answer("rt", "version")
 
 
+# ---- the module for JavaScript
+
+
+@functools.lru_cache(None)
+def binaryen():
+    """Returns the version of binaryen, or None if it is not here."""
+    if not shutil.which("wasm-opt"):
+        return None
+    return prover.answer("wasm-opt", "--version").replace("(", "").replace(")", "")
+
+
+def wasm_line():
+    """Returns what VERDICT says of hll.wasm."""
+    return "proved for x86-64, compiled from the same module for WebAssembly, tested there; sources %s; %s" % (asked("wasm-sum"), binaryen())
+
+
+def made_wasm(rtlib):
+    """Compiles and links the module for JavaScript from LLVM's modules of the library, and returns its bytes."""
+    with tempfile.TemporaryDirectory() as room:
+        room = pathlib.Path(room)
+        clang = pathlib.Path(rtlib.KIT, "toolchain", "bin", "clang")
+        retarget.retarget(clang, module_for(X86), module_for(ARM), room / "proved.o")
+        ran = subprocess.run(["sh", LINK, room / "proved.o", rtlib.KIT, room / "hll.wasm"], stdout=subprocess.PIPE,
+                             stderr=subprocess.STDOUT, text=True, errors="replace")
+        if ran.returncode:
+            raise Unknown("%s ended with status %d: %s" % (LINK.name, ran.returncode, ran.stdout.strip()[-300:]))
+        return (room / "hll.wasm").read_bytes()
+
+
+def put_wasm(rtlib, verdict, texts):
+    """Adds hll.wasm to what was made. Without the version of binaryen that made it, it stays as it is, if it is made of the same
+    sources."""
+    old = committed()
+    line, same = wasm_line(), old is not None and old.sources == verdict.sources and asked("wasm") == "fresh"
+    if same and line != old.wasm:
+        print("not compared: prebuilt/%s was made by %s, and here is %s" % (WASM, old.wasm.rpartition("; ")[2], binaryen() or "no wasm-opt (binaryen)"))
+        line, texts[WASM] = old.wasm, (PREBUILT / WASM).read_bytes()
+    elif not binaryen():
+        raise Unknown("wasm-opt, of binaryen, is not here, and prebuilt/%s has to be made again" % WASM)
+    else:
+        texts[WASM] = made_wasm(rtlib)
+    verdict.wasm, verdict.files[WASM] = line, sum_of(texts[WASM])
+
+
+def link_again():
+    """Makes hll.wasm again from the modules that are kept, and writes it with VERDICT. Returns counts."""
+    verdict = committed()
+    kept = [module_for(target).with_suffix(".sources") for target in (X86, ARM)]
+    if kit() != verdict.prover or asked("sum") != verdict.sources or any(not file.is_file() or file.read_text() != verdict.sources for file in kept):
+        print("failed: nothing is kept of these sources by %s: run scripts/prebuilt.py" % verdict.prover)
+        return 0, 1
+    data = made_wasm(toolchain())
+    verdict.wasm, verdict.files[WASM] = wasm_line(), sum_of(data)
+    (PREBUILT / WASM).write_bytes(data)
+    VERDICT.write_text(verdict.text())
+    print("prebuilt/%s is written" % WASM)
+    return 1, 0
+
+
 def make_all():
-    """Makes every text. Returns a verdict, and the texts by their paths."""
+    """Makes every file. Returns a verdict, and the files' bytes by their paths."""
     rtlib = toolchain()
     at_once = next((count for count in (len(TEXTS), 3, 2) if rtlib.fits(*[NEED] * count)), 1)
     jobs = max(1, min((os.cpu_count() or 1) // at_once, 4))
     with ThreadPoolExecutor(at_once) as runs:
         found = dict(zip(TEXTS, runs.map(lambda text: made(rtlib, text, jobs), TEXTS)))
-    texts = {text.path: words for text, (words, _) in found.items()}
-    files = {path: sum_of(words.encode()) for path, words in texts.items()}
-    return Verdict(kit(), asked("sum"), {text.path: said for text, (_, said) in found.items()}, files), texts
+    texts = {text.path: words.encode() for text, (words, _) in found.items()}
+    files = {path: sum_of(data) for path, data in texts.items()}
+    verdict = Verdict(kit(), asked("sum"), {text.path: said for text, (_, said) in found.items()}, files)
+    put_wasm(rtlib, verdict, texts)
+    return verdict, texts
 
 
 def lib(crate):
@@ -269,19 +359,19 @@ def lib(crate):
 
 
 def write(verdict, texts):
-    """Writes all texts and VERDICT, and removes texts that are no longer made."""
-    for file in PREBUILT.glob("*/*.s"):
+    """Writes all files and VERDICT, and removes files that are no longer made."""
+    for file in PREBUILT.glob("*/*"):
         if file.relative_to(PREBUILT).as_posix() not in texts:
             file.unlink()
-    for path, words in texts.items():
+    for path, data in texts.items():
         (PREBUILT / path).parent.mkdir(parents=True, exist_ok=True)
-        (PREBUILT / path).write_text(words)
+        (PREBUILT / path).write_bytes(data)
     VERDICT.write_text(verdict.text())
 
 
 def difference(verdict, texts):
     """Returns what differs between prebuilt/ and what was made: names of files."""
-    found = [path for path, words in texts.items() if not (PREBUILT / path).is_file() or (PREBUILT / path).read_bytes() != words.encode()]
+    found = [path for path, data in texts.items() if not (PREBUILT / path).is_file() or (PREBUILT / path).read_bytes() != data]
     found += [path for path in committed().files if path not in texts]
     return found + ["VERDICT"] * (VERDICT.read_text() != verdict.text())
 
@@ -296,7 +386,7 @@ def compare(verdict, texts):
     if differing and old.prover != verdict.prover and asked("state") == "fresh":
         print("not compared: prebuilt/ was made by %s, and this is %s, which gives other text for %s" % (
             old.prover, verdict.prover, " ".join(differing)))
-        OTHER_TOOLCHAIN.write_text(texts["x86_64/libhll_c.s"])
+        OTHER_TOOLCHAIN.write_bytes(texts["x86_64/libhll_c.s"])
         return 1, 0     # the checksums of prebuilt/
     for path in differing:
         print("failed: prebuilt/%s is not what the sources give. To write it again: scripts/prebuilt.py --write" % path)
@@ -306,7 +396,7 @@ def compare(verdict, texts):
 def settle(verdict, texts, is_forced):
     """Compares prebuilt/ with what was made, or writes it where a source has changed. Returns counts."""
     old = committed()
-    if old and old.sources == verdict.sources and not is_forced:
+    if old and old.sources == verdict.sources and asked("wasm") == "fresh" and not is_forced:
         return compare(verdict, texts)
     write(verdict, texts)
     if is_forced:
@@ -336,7 +426,7 @@ def main():
         for library in LIBRARIES:
             lib(library)
     try:
-        passed, failed = settle(*make_all(), "--write" in sys.argv[1:])
+        passed, failed = link_again() if "--wasm" in sys.argv[1:] else settle(*make_all(), "--write" in sys.argv[1:])
     except Exception as why:    # of the toolchain's own code, whatever it is
         passed, failed = go_on_without_text(why)
     print("%d passed, %d failed" % (passed, failed))

@@ -7,6 +7,8 @@
 #                                 fresh     prebuilt/VERDICT has this checksum, and each file has the checksum that VERDICT lists
 #                                 stale     a source has changed since
 #                                 damaged   VERDICT or a file of prebuilt/ has changed
+#   scripts/prebuilt.sh wasm-sum  prints the checksum of what prebuilt/wasm/hll.wasm is made from in addition to these sources
+#   scripts/prebuilt.sh wasm      prints `fresh`, or `stale` if one of those files has changed since hll.wasm was made
 set -eu
 cd "$(dirname -- "$0")/.."
 LC_ALL=C
@@ -55,10 +57,46 @@ state() {
     fi
 }
 
+# Prints a C file without its comments, and without the length of its blanks.
+uncommented() {
+    awk '
+        { text = text $0 "\n" }
+        END {
+            while ((start = index(text, "/*")) > 0) {
+                after = substr(text, start + 2)
+                text = substr(text, 1, start - 1) " " substr(after, index(after, "*/") + 2)
+            }
+            gsub(/[ \t\n]+/, " ", text)
+            print text
+        }' "$1"
+}
+
+# The C files that are linked with the proved library, and what compiles and links it.
+wasm_sum() {
+    {
+        for file in hll.h counter.c estimate.c optional.c state.c; do
+            uncommented "bindings/c/$file"
+        done
+        find bindings/javascript/wasm -type f -name '*.[ch]' -print | sort | while IFS= read -r file; do
+            echo "$file"
+            uncommented "$file"
+        done
+        cat scripts/retarget.py bindings/javascript/wasm/build.sh bindings/javascript/wasm/lower.py
+    } | sha256sum | cut -d' ' -f1
+}
+
+wasm() {
+    case $(sed -n 's/^wasm: .*sources \([0-9a-f]*\);.*/\1/p' prebuilt/VERDICT) in
+    "$(wasm_sum)") echo fresh ;;
+    *) echo stale ;;
+    esac
+}
+
 case ${1:-} in
-sum | state) "$1" ;;
+sum | state | wasm) "$1" ;;
+wasm-sum) wasm_sum ;;
 *)
-    echo 'usage: scripts/prebuilt.sh sum|state' >&2
+    echo 'usage: scripts/prebuilt.sh sum|state|wasm-sum|wasm' >&2
     exit 2
     ;;
 esac

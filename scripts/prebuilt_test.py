@@ -20,11 +20,11 @@ import unit_tests  # noqa: E402
 
 SCRIPT = prebuilt.ROOT / "scripts" / "prebuilt.sh"
 OWN, OTHER = "kit-1 logic a", "kit-2 logic a"
-PATHS = [text.path for text in prebuilt.TEXTS]
+PATHS = [text.path for text in prebuilt.TEXTS] + [prebuilt.WASM]
 
 
 def texts_of(version):
-    return {path: "# %s %s\n" % (path, version) for path in PATHS}
+    return {path: b"# %s %s\n" % (path.encode(), version.encode()) for path in PATHS}
 
 
 class PrebuiltTest(unittest.TestCase):
@@ -41,12 +41,20 @@ class PrebuiltTest(unittest.TestCase):
                 (self.root / "crates" / name / part / "a").write_text(name)
         others = self.root / "crates" / "hll_c" / "out"
         others.mkdir()
+        (self.root / "scripts" / "retarget.py").write_text("pass\n")
+        for name in ("c", "javascript/wasm"):
+            (self.root / "bindings" / name).mkdir(parents=True)
+        for name in ("c/hll.h", "c/counter.c", "c/estimate.c", "c/optional.c", "c/state.c", "javascript/wasm/calls.c", "javascript/wasm/build.sh", "javascript/wasm/lower.py"):
+            (self.root / "bindings" / name).write_text("/* %s */ int x; /* two\nlines */\n" % name)
         places = {"ROOT": self.root, "PREBUILT": self.root / "prebuilt", "VERDICT": self.root / "prebuilt" / "VERDICT", "OTHERS": others,
                   "OTHER_TOOLCHAIN": others / "other-toolchain.s", "OTHER_ARCHIVE": others / "other-toolchain.a"}
         for name, value in places.items():
             patched = unittest.mock.patch.object(prebuilt, name, value)
             patched.start()
             self.addCleanup(patched.stop)
+        patched = unittest.mock.patch.object(prebuilt, "binaryen", return_value="wasm-opt version 9")
+        patched.start()
+        self.addCleanup(patched.stop)
         self.others = others
         self.put(OWN, "1")
 
@@ -57,7 +65,7 @@ class PrebuiltTest(unittest.TestCase):
     def verdict(self, prover, version, said="logic=proved functions=2"):
         texts = texts_of(version)
         return prebuilt.Verdict(prover, prebuilt.asked("sum"), {path: [said] for path in PATHS},
-                                {path: prebuilt.sum_of(text.encode()) for path, text in texts.items()})
+                                {path: prebuilt.sum_of(text) for path, text in texts.items()}, prebuilt.wasm_line())
 
     def run_main(self, prover, version, *words, ci="", said="logic=proved functions=2"):
         """Runs the script where this toolchain is here and gives these texts, or is unknown (version None); returns the exit
@@ -127,7 +135,7 @@ class PrebuiltTest(unittest.TestCase):
         status, last, said = self.run_main(OTHER, "2", ci="true")
         self.assertEqual((status, last), (0, "1 passed, 0 failed"))
         self.assertIn("not compared: prebuilt/ was made by kit-1", said)
-        self.assertEqual((self.others / "other-toolchain.s").read_text(), texts_of("2")["x86_64/libhll_c.s"])
+        self.assertEqual((self.others / "other-toolchain.s").read_bytes(), texts_of("2")["x86_64/libhll_c.s"])
         self.change("prebuilt/x86_64/hll_estimator_fields.s", "hll_estimator_fields", "hll_worts")
         self.assertEqual(self.run_main(OTHER, "2")[0], 1)
 
@@ -150,6 +158,65 @@ class PrebuiltTest(unittest.TestCase):
         self.assertEqual(prebuilt.said_of(kept), anew[1:])
         other = [*anew[:2], "logic=proved functions=2 statements=trusted cache=trusted"]
         self.assertEqual(prebuilt.said_of(other), other[1:])
+
+    def test_what_the_module_for_javascript_is_made_from(self):
+        self.assertEqual(prebuilt.asked("wasm"), "fresh")
+        self.change("bindings/c/counter.c", "two\nlines", "other\n\nwords")
+        self.assertEqual(prebuilt.asked("wasm"), "fresh")
+        for file, old, new in (("bindings/c/counter.c", "int x", "int y"), ("bindings/javascript/wasm/calls.c", "int x", "long x"),
+                               ("bindings/javascript/wasm/lower.py", "two", "three"), ("scripts/retarget.py", "pass", "1")):
+            self.change(file, old, new)
+            self.assertEqual((prebuilt.asked("state"), prebuilt.asked("wasm")), ("fresh", "stale"), file)
+            status, _, said = self.run_main(OWN, "1", ci="true")
+            self.assertEqual(status, 1, file)
+            self.assertIn("written again now", said)
+            self.assertEqual((prebuilt.asked("wasm"), self.run_main(OWN, "1", ci="true")[0]), ("fresh", 0), file)
+
+    def test_a_module_of_which_one_byte_is_changed(self):
+        file = self.root / "prebuilt" / prebuilt.WASM
+        file.write_bytes(file.read_bytes()[:-1] + b"!")
+        self.assertEqual(prebuilt.asked("state"), "damaged")
+        status, _, said = self.run_main(OWN, "1")
+        self.assertEqual(status, 1)
+        self.assertIn("failed: prebuilt/wasm/hll.wasm is not what", said)
+
+    def put_wasm(self, version, made=b"new"):
+        """Returns what put_wasm makes of hll.wasm with this version of binaryen, and what VERDICT would say of it."""
+        verdict, texts = self.verdict(OWN, "1"), {}
+        with unittest.mock.patch.object(prebuilt, "binaryen", return_value=version), \
+                unittest.mock.patch.object(prebuilt, "made_wasm", return_value=made), contextlib.redirect_stdout(io.StringIO()) as out:
+            prebuilt.put_wasm(None, verdict, texts)
+        return texts[prebuilt.WASM], verdict.wasm, out.getvalue()
+
+    def test_another_binaryen(self):
+        old = (self.root / "prebuilt" / prebuilt.WASM).read_bytes()
+        here = prebuilt.committed().wasm
+        self.assertEqual(self.put_wasm("wasm-opt version 9"), (b"new", here, ""))
+        for version in ("wasm-opt version 1", None):
+            found, line, said = self.put_wasm(version)
+            self.assertEqual((found, line), (old, here))
+            self.assertIn("not compared: prebuilt/wasm/hll.wasm was made by", said)
+        self.change("bindings/c/state.c", "int x", "int y")
+        self.assertEqual(self.put_wasm("wasm-opt version 1")[0], b"new")
+        with self.assertRaises(prebuilt.Unknown):
+            self.put_wasm(None)
+
+    def test_the_module_for_javascript_alone(self):
+        def run(prover=OWN):
+            with unittest.mock.patch.object(prebuilt, "made_wasm", return_value=b"again"), \
+                    unittest.mock.patch.object(prebuilt, "toolchain", return_value=None):
+                return self.run_main(prover, "1", "--wasm")[0]
+
+        self.change("bindings/c/state.c", "int x", "int y")
+        self.assertEqual((run(), prebuilt.asked("wasm")), (1, "stale"))
+        for target in (prebuilt.X86, prebuilt.ARM):
+            (self.root / "module").write_text("module")
+            prebuilt.keep_module(self.root / "module", target)
+        self.assertEqual((run(OTHER), prebuilt.asked("wasm")), (1, "stale"))
+        self.assertEqual((run(), prebuilt.asked("wasm"), prebuilt.asked("state")), (0, "fresh", "fresh"))
+        self.assertEqual((self.root / "prebuilt" / prebuilt.WASM).read_bytes(), b"again")
+        self.change("crates/hll_c/src/a", "hll_c", "other")
+        self.assertEqual((run(), prebuilt.asked("state")), (1, "stale"))
 
     def test_no_text_yet(self):
         shutil.rmtree(self.root / "prebuilt")

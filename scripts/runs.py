@@ -6,9 +6,11 @@ failed' at the end.
 
 A run with an error prints one line on standard error and nothing for the rejected line on standard output, and ends with 1. The same
 runs are made with the programs for 64-bit ARM, in an emulator, where a cross compiler and qemu are here, but for those of rows.
+--help and the manual page of hll_merge have each word of an error.
 """
 import os
 import pathlib
+import re
 import subprocess
 import sys
 from concurrent.futures import ThreadPoolExecutor
@@ -60,6 +62,18 @@ def faults_of(words, folder):
             yield program, given, differs([*words, str(folder / program)], given, (b"", err, status), full)
 
 
+def faults_of_help():
+    """Looks for each word of an error, of the table in docs/PLAN.md, in what --help prints and on the manual page."""
+    table = (ROOT / "docs" / "PLAN.md").read_text().split("\n## Faults\n")[1].split("\n## ")[0]
+    words = re.findall(r"^\| \d+ \| \w+ \| `(\w+)`", table, re.M)
+    assert len(words) == 9, words
+    ran = subprocess.run([str(ROOT / "bin" / "hll_merge"), "--help"], capture_output=True, text=True, check=True)
+    page = (ROOT / "man" / "hll_merge.1").read_text()
+    for word in words:
+        is_there = re.search(r"^  (\w+, )*%s\b" % word, ran.stdout, re.M) and re.search(r"^\.It %s\b" % word, page, re.M)
+        yield "hll_merge --help", word.encode(), None if is_there else "no line of its own"
+
+
 def fault_of_row(row):
     """Runs hll_merge on the plan of a row; the fault, with None for a right run."""
     plan, mark, answer = row
@@ -77,7 +91,7 @@ def built_for_arm():
 
 def faults_here():
     """The faults of runs of the programs of this machine."""
-    faults = list(faults_of([], ROOT / "bin"))
+    faults = [*faults_of([], ROOT / "bin"), *faults_of_help()]
     with ThreadPoolExecutor(os.cpu_count()) as pool:
         faults += pool.map(fault_of_row, (row for path in texts() for row in rows_in(path)))
     return faults

@@ -4,6 +4,8 @@
 it, how much of the library's code is proved, and what is only tested.
 
     scripts/trust.py
+    scripts/trust.py --write     writes the numbers that need no build into docs/PROVED.md
+    scripts/trust.py --check     compares them, and prints 'N passed, M failed'
 
 The table is made from prebuilt/VERDICT, which has the prover's last lines, and from a library that is built from prebuilt/ in a
 scratch folder: its symbols, and its results on all test vectors. Needs make, a C compiler and binutils.
@@ -24,7 +26,7 @@ import prebuilt  # noqa: E402
 from rows import texts  # noqa: E402
 
 C = ROOT / "bindings" / "c"
-OWN = ("estimate", "optional", "state", "heap")
+OWN = ("estimate", "optional", "state", "counter", "heap")
 TEXT = "%s/libhll_c.s" % os.uname().machine
 
 
@@ -94,6 +96,7 @@ def rows_on_proof(verdict):
     yield "taken as given by the proof", "the logic `%s`; what the prover computes by itself: %s; as they were proved before: %s" % (
         words["sum"], words["native"].replace(",", ", "), ", ".join(sorted(name for name, value in words.items() if value == "trusted")))
     lines = [line.partition(" ")[2] for line in verdict.said[TEXT][:-1] if ": none reached" not in line]
+    yield "for WebAssembly: %s" % prebuilt.WASM, verdict.wasm
     yield "axioms: contracts of functions in C", "%s, which heap.c is trusted to keep: %s" % (words.get("axioms", "0"), "; ".join(lines) or "none")
 
 
@@ -107,7 +110,7 @@ def rows_on_library(build):
     direct, handed, own = calls(build)
     yield "proved calls", "%d; and %d through optional.c, where NULL is allowed, state.c, which counts elements, or estimate.c, which adds bounds" % (len(direct), len(handed))
     yield "calls that are only tested", ", ".join("`%s`" % name for name in own)
-    yield "around it, only tested", "C++, Rust, Python, PostgreSQL, SQLite, Dask: bindings/"
+    yield "around it, only tested", "C++, Rust, Go, Python, JavaScript, PostgreSQL, SQLite, Dask: bindings/"
 
 
 def table():
@@ -117,7 +120,52 @@ def table():
     return "\n".join(["| of libhll | |", "|---|---|", *("| %s | %s |" % row for row in rows)])
 
 
+# ---- numbers on the page
+
+
+PAGE = ROOT / "docs" / "PROVED.md"
+BEGIN, END = "<!-- numbers -->\n", "<!-- end -->\n"
+
+
+def numbers():
+    """The lines of the page's table: from the verdict, the exports of hll_c and the calls of the library."""
+    words = words_of(prebuilt.committed().said[TEXT][-1])
+    sources = (ROOT / "crates" / "hll_c" / "src").glob("*.rt")
+    exports = {name for source in sources for name in re.findall(r"\bfn (hll_\w+)", source.read_text())}
+    names = re.findall(r"^ *(hll_\w+);$", (C / "hll.map").read_text(), re.M)
+    own = [name for name in names if name not in exports]
+    counters = [name for name in own if name.startswith("hll_counter_")]
+    others = ", ".join(name for name in own if name not in counters)
+    return [
+        "| of libhll | |", "|---|---|",
+        f"| functions that the prover found proved, for each processor | {words['functions']} |",
+        f"| contracts that the proof takes as given: to allocate, to reallocate and to free, in `heap.c` | {words['axioms']} |",
+        f"| proved calls | {len(names) - len(own)} |",
+        f"| calls in plain C over proved calls, tested | {len(counters)}: hll_counter_init and the others of counters |",
+        f"| calls in plain C, tested | {len(own) - len(counters)}: {others} |",
+    ]
+
+
+def with_numbers(text):
+    before, rest = text.split(BEGIN)
+    return before + BEGIN + "\n".join(numbers()) + "\n" + END + rest.split(END, 1)[1]
+
+
+def put_numbers(only_check):
+    text = PAGE.read_text("utf-8")
+    is_same = with_numbers(text) == text
+    if not only_check:
+        PAGE.write_text(with_numbers(text), "utf-8")
+        return 0
+    if not is_same:
+        print("docs/PROVED.md: its numbers are not those of the sources: run scripts/trust.py --write")
+    print(f"{int(is_same)} passed, {int(not is_same)} failed")
+    return int(not is_same)
+
+
 def main():
+    if sys.argv[1:] in (["--write"], ["--check"]):
+        return put_numbers(sys.argv[1] == "--check")
     state = prebuilt.asked("state")
     if state != "fresh" or not (shutil.which("make") and shutil.which("cc")):
         print("no table: prebuilt/ is %s, or make or a C compiler is not here" % state)

@@ -1,12 +1,12 @@
 #!/usr/bin/env python3
 # SPDX-License-Identifier: Apache-2.0
-"""Checks the words of pages, documentation and messages against the table of docs/FORMAT.md, "Words".
+"""Checks the words of pages, documentation and messages against the list scripts/words.txt.
 
     scripts/wording.py           checks them, and prints 'N passed, M failed' in the end
     scripts/wording.py messages  prints each message with its file and line
 
 There is one test for each kind of text: pages, manual pages, the documentation of each language, and the messages of each
-host. What is in backticks, quoted blocks of code and the table itself are not checked. A message is a literal with a space
+host. What is in backticks and blocks of code is not checked. A message is a literal with a space
 in it that the source of a host has outside of comments and documentation; the help of the command `hll` is made of them.
 """
 import ast
@@ -131,26 +131,24 @@ def pages(patterns):
     """The file, the line and the text of each paragraph of pages."""
     for path in files(patterns):
         text = path.read_text("utf-8")
-        if path.name == "FORMAT.md":
-            text = text.replace(table_of_words(), "\n" * table_of_words().count("\n"))
         text = without_code(text) if path.suffix == ".md" else text
         for found in PARAGRAPH[path.suffix].finditer(text):
             yield path, line_at(text, found.start()), found[0]
 
 
-# ---- the table
+# ---- the list
 
 
-def table_of_words():
-    """The section of docs/FORMAT.md that has the table."""
-    page = (ROOT / "docs" / "FORMAT.md").read_text("utf-8")
-    return page.split("\n### Words\n")[1].split("\n## ")[0]
-
-
-def words_not_written():
-    """Each phrase that the table rules out, and what is written for it."""
-    rows = re.findall(r"^\| ([^|]+) \| ([^|]+) \|$", table_of_words(), re.M)
-    return {phrase.strip(): wanted for wanted, phrases in rows[1:] for phrase in phrases.split(",")}
+def words_not_written(kind="pages"):
+    """Each phrase that the list rules out in a kind of text, and what is written for it."""
+    words, is_read = {}, False
+    for line in (ROOT / "scripts" / "words.txt").read_text("utf-8").splitlines():
+        if line.startswith("["):
+            is_read = line == "[everywhere]" or line == "[pages]" and kind in ("pages", "manual pages")
+        elif is_read and " | " in line:
+            wanted, phrases = line.split(" | ")
+            words.update((phrase.strip(), wanted) for phrase in phrases.split(","))
+    return words
 
 
 def faults(texts, words):
@@ -176,10 +174,10 @@ def kinds():
 
 
 def check():
-    """How many kinds of text keep to the words of the table, and how many don't."""
-    words, passed, failed = words_not_written(), 0, 0
+    """How many kinds of text keep to the words of the list, and how many don't."""
+    passed, failed = 0, 0
     for kind, texts in kinds():
-        found = list(faults(texts, words))
+        found = list(faults(texts, words_not_written(kind)))
         print(*(f"{kind}: {fault}" for fault in found), sep="\n", end="\n" if found else "")
         passed, failed = passed + (not found), failed + bool(found)
     return passed, failed

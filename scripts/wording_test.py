@@ -12,49 +12,49 @@ sys.path.insert(0, str(pathlib.Path(__file__).resolve().parent))
 import unit_tests  # noqa: E402
 import wording  # noqa: E402
 
-FORMAT = """\
-# Formats
-
-## Glossary
-
-### Words
-
-| written | not written |
-|---|---|
-| again | anew, once more |
-| is rejected | refused |
+WORDS = """\
+# what is written | what is not
+[everywhere]
+again | anew, once more
+is rejected | refused
+[pages]
+directory | folder
 """
 
 
 class WordingTest(unittest.TestCase):
-    def faults(self, texts, **files):
+    def faults(self, texts, kind, **files):
         """Writes files, and returns the faults of one kind of text, without what to write."""
         with tempfile.TemporaryDirectory() as root:
-            for name, text in {"docs/FORMAT.md": FORMAT, **files}.items():
+            for name, text in {"scripts/words.txt": WORDS, **files}.items():
                 path = pathlib.Path(root, name)
                 path.parent.mkdir(parents=True, exist_ok=True)
                 path.write_text(text)
             with unittest.mock.patch.object(wording, "ROOT", pathlib.Path(root)), unittest.mock.patch.object(wording, "FEWEST", 0):
-                found = list(wording.faults(texts(), wording.words_not_written()))
+                found = list(wording.faults(texts(), wording.words_not_written(kind)))
         return sorted(fault.rsplit(":", 1)[0] for fault in found)
 
     def pages(self, text, name="page.md"):
-        return self.faults(lambda: wording.pages(("**/*.md", "**/*.1")), **{name: text})
+        return self.faults(lambda: wording.pages(("**/*.md", "**/*.1")), "pages", **{name: text})
 
     def documentation(self, name, text):
         kind = {"made.py": "Python", "made.h": "C", "made.rs": "Rust"}[name]
         with unittest.mock.patch.object(wording, "DOCUMENTATION", {kind: (name,)}):
-            return self.faults(lambda: wording.documentation(kind), **{name: text})
+            return self.faults(lambda: wording.documentation(kind), f"documentation in {kind}", **{name: text})
 
     def messages(self, name, text):
         with unittest.mock.patch.object(wording, "MESSAGES", {"host": (name,)}):
-            return self.faults(lambda: wording.messages("host"), **{name: text})
+            return self.faults(lambda: wording.messages("host"), "messages of host", **{name: text})
 
     def test_a_page(self):
         self.assertEqual(self.pages("One\n\nIt is Refused,\nonce\nmore.\n"), ['page.md:3: "Refused"', 'page.md:4: "once more"'])
 
-    def test_each_row_of_the_table(self):
+    def test_each_row_of_the_list(self):
         self.assertEqual(self.pages("anew\n\nrefused\n"), ['page.md:1: "anew"', 'page.md:3: "refused"'])
+
+    def test_rows_for_pages_only(self):
+        self.assertEqual(self.pages("a folder\n"), ['page.md:1: "folder"'])
+        self.assertEqual(self.messages("made.c", 'fail("a folder is refused");\n'), ['made.c:1: "refused"'])
 
     def test_whole_words(self):
         self.assertEqual(self.pages("unrefused, refused_plan and sinew anewly\n"), [])
@@ -64,9 +64,6 @@ class WordingTest(unittest.TestCase):
 
     def test_text_after_code(self):
         self.assertEqual(self.pages("    code\n\nanew\n\n```sh\ncode\n```\n\nrefused\n"), ['page.md:3: "anew"', 'page.md:9: "refused"'])
-
-    def test_the_table_itself(self):
-        self.assertEqual(self.pages(FORMAT + "\n## Next\n\nanew\n", "docs/FORMAT.md"), ['docs/FORMAT.md:14: "anew"'])
 
     def test_a_manual_page(self):
         self.assertEqual(self.pages(".Sh NAME\nIt is\nrefused\n.Sh NEXT\nanew\n", "man.1"), ['man.1:3: "refused"', 'man.1:5: "anew"'])

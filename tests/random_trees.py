@@ -7,7 +7,7 @@ unions shuffled, repeated, and grouped under further unions of the same bound an
 as their images. Both plans have to print the same bytes.
 
 It also merges many small images: lists and sets whose coupons are random, or all on one path of a table, after a set,
-registers or nothing, in one union or in several. The program has to print what the plain model of plans returns
+registers or nothing, with images of nothing or of registers between them, in one union or in several. The program has to print what the plain model of plans returns
 (tests/plain_plans.py).
 
 The random numbers are the same at each run. Call it with the number of pairs, and with the program's path; without one it
@@ -171,6 +171,15 @@ def small_image(numbers, pool):
     return unsorted_set(5, coupons)
 
 
+def image_between(numbers):
+    """What comes between small images now and then: an image of nothing, or seldom of registers."""
+    kind = numbers.random()
+    if kind < 0.5:
+        return set_image(numbers.randint(8, 21), 5, [])
+    lg_k = numbers.randint(4, 10)
+    return image_of(lg_k, 8, bytes(1 << lg_k) if kind < 0.95 else bytes(numbers.choice((0, 1, 5)) for _ in range(1 << lg_k)))
+
+
 def first_images(numbers, pool, lg_size):
     """What the small images are merged after: a set with some of the same coupons, registers, or nothing."""
     kind = numbers.random()
@@ -186,7 +195,9 @@ def plan_of_small_images(numbers):
     """The lines of a plan: images, and unions of the last of them, the last union over all that is left."""
     lg_size = numbers.choice((10, 14))
     pool = (path_coupons if numbers.random() < 0.7 else scattered_coupons)(lg_size)[:2_000]
-    images = first_images(numbers, pool, lg_size) + [small_image(numbers, pool) for _ in range(numbers.choice((3, 40, 400)))]
+    images = first_images(numbers, pool, lg_size)
+    for _ in range(numbers.choice((3, 40, 400))):
+        images.append(image_between(numbers) if numbers.random() < 0.1 else small_image(numbers, pool))
     if numbers.random() < 0.3:
         numbers.shuffle(images)
     bound = numbers.choice((4, 10, 12, 17, 21))

@@ -86,12 +86,14 @@
  *     it allocates.
  *
  * Threads
- *     Calls share no data. Any number of threads may call at once, also with the same inputs. Every call on a state may change
- *     the bytes of the state, also hll_state_image and hll_state_estimate: use a state in one thread at a time.
+ *     Calls share no data. Any number of threads may call at once, also with the same inputs. Calls on a state may change the
+ *     bytes of the state, but hll_state_info doesn't: use a state in one thread at a time. hll_state_image, hll_state_estimate and
+ *     the other state of hll_state_join_state change no byte of a state that one of the first two has read since something was
+ *     added or merged, or that has registers: then any number of threads may read it.
  *
  * What is proved
- *     - Of the calls from hll_image_info to hll_coupons_ends32: which status they return, what they write and what they leave
- *       unchanged, for all inputs of a caller who ensures the above.
+ *     - Of the calls on images, caller-owned registers, states and coupons: which status they return, what they write and what
+ *       they leave unchanged, for all inputs of a caller who ensures the above.
  *     - If an image is merged into registers that are not all 0, and these are written as an image, the result is the union of
  *       the registers and the image, with the estimator fields set.
  *     - What a state means after a merge (hll_state_join), for states that only calls of this library have written. None of
@@ -101,10 +103,11 @@
  *       registers above 0 and the value of the formula in docs/NUMBERS.md.
  *     - The sketch of a new state into which hll_state_join merged images under the lg_max_k that it was made with is the one of
  *       which hll_images_union writes the image, for the same images and lg_max_k.
- *     That the order, repetition and grouping of canonical images under one lg_max_k make no difference follows from laws that
- *     are proved for these unions (docs/PROVED.md, "The headline").
- *     Not proved, but tested: bounds, estimates from coupons, hll_hip_estimate, hll_version, the division of a state's room
- *     by four, and what this header defines itself. Nothing is proved of time, threads, NULL and other libraries. Of memory it
+ *     - Of the unions that hll_image_merge, hll_images_union and hll_images_unionv write, for canonical images under one lg_max_k:
+ *       the bytes don't depend on the order, repetition and grouping of the images (the laws bytes_of_unions of hll_sketch), and
+ *       the union is canonical too.
+ *     Not proved, but tested: counters, bounds, estimates from coupons, hll_hip_estimate, hll_version, the division of a state's
+ *     room by four, and what this header defines itself. Nothing is proved of time, threads, NULL and other libraries. Of memory it
  *     is proved only for which images an allocation may fail.
  */
 #ifndef HLL_H
@@ -184,6 +187,16 @@ typedef struct hll_info {
     uint8_t out_of_order;   /* of registers: 1 if the image has the out-of-order flag, else 0 */
 } hll_info;
 
+/* What a state says. A later version may add members. */
+typedef struct hll_state_summary {
+    uint64_t size;          /* the bytes that the state takes of its room; a copy of these bytes is a copy of the state */
+    uint8_t lg_k;           /* 4 to 21; if it is open: the greatest of the images without values that were merged, or 4 */
+    uint8_t width;          /* of the images that were merged: 4, 6 or 8; 8 if none counts, or if their widths differ */
+    uint8_t stage;          /* HLL_SET for coupons, which may repeat, or HLL_REGISTERS */
+    uint8_t is_empty;       /* 1 if it has no values, else 0 */
+    uint8_t is_open;        /* 1 if its lg_k is open, else 0 */
+} hll_state_summary;
+
 /* counts[v] is the number of registers with the value v. The sum of all counts is 2^lg_k. */
 typedef struct hll_histogram {
     uint64_t counts[64];
@@ -259,7 +272,7 @@ hll_status hll_image_add_coupon(const uint8_t *image, size_t len, uint32_t slot,
  * the smallest lg_k of the images in registers that are not all 0, if that is smaller. For a width of 0 the call returns
  * HLL_ARGUMENT, and so do the unions below.
  * Returns HLL_OK, 1 to 11 (*failed is 0 for the left image, 1 for the right), HLL_ARGUMENT, HLL_MEMORY or HLL_BUFFER.
- * Allocates the memory of reading one image at a time, 2^lg_k bytes, and the image. */
+ * Allocates the memory of reading one image at a time, at most 1.5 times 2^lg_max_k bytes or 1 KB, and the image. */
 hll_status hll_image_merge(unsigned lg_max_k, unsigned width, const uint8_t *left, size_t left_len,
                            const uint8_t *right, size_t right_len, uint8_t *out, size_t room, size_t *size,
                            size_t *failed);
@@ -272,7 +285,7 @@ hll_status hll_image_merge(unsigned lg_max_k, unsigned width, const uint8_t *lef
  * example, a set of 31 coupons in 32 buckets at lg_k 8 stays a set if it is merged once, and becomes registers if it is
  * merged twice.
  * Returns HLL_OK, 1 to 11 (*failed is the number of the image), HLL_ARGUMENT, HLL_MEMORY or HLL_BUFFER.
- * Allocates the memory of reading one image at a time, 2^lg_k bytes, and the image. */
+ * Allocates the memory of reading one image at a time, at most 1.5 times 2^lg_max_k bytes or 1 KB, and the image. */
 hll_status hll_images_union(unsigned lg_max_k, unsigned width, const uint8_t *images, size_t images_len,
                             const size_t *ends, size_t n, uint8_t *out, size_t room, size_t *size, size_t *failed);
 
@@ -382,7 +395,7 @@ hll_status hll_registers_image(const uint8_t *registers, size_t count, unsigned 
 /* ---- states ----
  *
  * A sketch that grows in memory of the caller: coupons while it is small, registers later. The caller frees that memory, and
- * nothing else. A copy of the first hll_state_size bytes is a copy of the sketch.
+ * nothing else.
  *
  *     size_t room = HLL_STATE_NEW, size;
  *     void *state = malloc(room);
@@ -397,7 +410,8 @@ hll_status hll_registers_image(const uint8_t *registers, size_t count, unsigned 
  * On HLL_BUFFER the sketch is unchanged, and *size bytes are enough for the same call. For coupons they are enough for half as
  * many again and eight more, for registers they are exactly what is needed, and they are at most HLL_STATE_MOST. So a loop
  * reallocates only a few times. The bytes may be moved, and need no alignment. They are the same on processors of either byte
- * order, but may change with the version of the library: store images in files and columns, not states.
+ * order, but change with the version of the library, which then takes the bytes of another version for no state: store images in
+ * files and columns, not states.
  *
  * The image of a state is the image that hll_image_add and hll_images_union would make of an empty sketch with the same values
  * and sketches. Without values it is the image of an empty list. If the bytes are not a state, a call returns HLL_ARGUMENT. If
@@ -418,9 +432,21 @@ hll_status hll_registers_image(const uint8_t *registers, size_t count, unsigned 
     (HLL_STATE_NEW + (HLL_CAST(size_t, 1) << (lg_k)) +                                                                     \
      ((lg_k) < 7 ? HLL_CAST(size_t, 64) : HLL_CAST(size_t, 1) << ((lg_k)-1)))
 
-/* Makes the state of an empty sketch.
+/* Makes the state of an empty sketch. If lg_k is 0, its lg_k is open: the first image or state with values that is merged into it
+ * decides its lg_k, or the first lg_max_k (hll_state_join). Until then adding a value returns HLL_ARGUMENT, its estimate is 0, and
+ * its image is the empty list of the greatest lg_k of the empty images that were merged, or of lg_k 4.
  * Returns HLL_OK, HLL_ARGUMENT, or HLL_BUFFER if room is below HLL_STATE_NEW. Allocates nothing. */
 hll_status hll_state_new(unsigned lg_k, void *state, size_t room);
+
+/* Reports what a state says: its size, its lg_k, the width of the images that were merged into it, whether it has registers,
+ * whether it is empty. summary_size is sizeof *summary. If it is not the size in this version of the library, the caller was
+ * compiled for another version, and the call returns HLL_ARGUMENT.
+ *
+ * If a state has no values, an image with values counts alone for the width: the images before it no longer count. If a state has
+ * values, an image without values doesn't count. Coupons are reported as they are kept: the image of a state is a list if at most
+ * seven of them are distinct, and has registers if there are too many for a set.
+ * Returns HLL_OK or HLL_ARGUMENT. Changes no byte of the state. Allocates nothing. */
+hll_status hll_state_info(const void *state, size_t room, hll_state_summary *summary, size_t summary_size);
 
 /* Adds n values to a state, delimited by `ends`, as hll_image_add does.
  * Returns HLL_OK, HLL_ARGUMENT or HLL_BUFFER. Allocates nothing. */
@@ -440,9 +466,10 @@ hll_status hll_state_add_coupons(void *state, size_t room, size_t *size, const u
  *
  *     lg_max_k 0     Only sketches of one lg_k are merged. If the state has values, and the image has values of another lg_k,
  *                    the call returns HLL_OTHER_LG_K. A state without values takes the lg_k of the first image with values,
- *                    and until then the greatest lg_k of the empty images: make it with hll_state_new(4, ..).
- *     lg_max_k 4-21  Images of any lg_k are merged. Make the state with hll_state_new(lg_max_k, ..). If lg_max_k is
- *                    below the lg_k of the state, the call returns HLL_ARGUMENT.
+ *                    and until then the greatest lg_k of the empty images. Make the state with hll_state_new(0, ..).
+ *     lg_max_k 4-21  Images of any lg_k are merged. Make the state with hll_state_new(lg_max_k, ..), or with lg_k 0, of which
+ *                    the call first makes the same state, also if it then returns HLL_BUFFER. If lg_max_k is below the lg_k of
+ *                    a state that isn't open, the call returns HLL_ARGUMENT.
  *
  * On HLL_BUFFER *size bytes are enough for the same call, at most HLL_STATE_MOST of the greater lg_k. A loop over images:
  *
@@ -459,14 +486,119 @@ hll_status hll_state_join_state(unsigned lg_max_k, void *state, size_t room, siz
                                 size_t other_room);
 
 /* Writes the image of a state at this width. The bytes of the state may change if it has coupons, because these are sorted, but
- * not its sketch.
+ * not its sketch. If the call returns HLL_OK, calls that read the state change no byte of it until something is added or merged.
  * Returns HLL_OK, HLL_REGISTER, HLL_ARGUMENT, HLL_MEMORY or HLL_BUFFER (*size is the size of the image). Allocates the image,
  * and for 4-bit registers with exceptions a map and two copies of them. */
 hll_status hll_state_image(void *state, size_t room, unsigned width, uint8_t *out, size_t out_room, size_t *size);
 
-/* Estimates from a state, as hll_estimate does. The bytes of the state may change if it has coupons, but not its sketch.
+/* Estimates from a state, as hll_estimate does. The bytes of the state may change if it has coupons, but not its sketch, as in
+ * hll_state_image.
  * Returns HLL_OK, HLL_REGISTER or HLL_ARGUMENT. Allocates nothing. */
 hll_status hll_state_estimate(void *state, size_t room, hll_estimation *estimation);
+
+/* ---- counters ----
+ *
+ * A sketch that grows by itself: a state, its memory, and up to 16 coupons that wait to be added. The struct is the caller's, and
+ * its memory comes from one function of the caller's in the manner of realloc, so a counter can live in any heap. A counter of
+ * up to 16 values has no memory but the struct.
+ *
+ *     hll_counter counter;
+ *     hll_counter_init(&counter, 12, NULL, NULL);
+ *     hll_counter_add(&counter, value, len);
+ *     hll_counter_estimate(&counter, &found);
+ *     hll_counter_image(&counter, 8, out, sizeof out, &size);
+ *     hll_counter_free(&counter);
+ *
+ * (A program also checks the statuses.)
+ *
+ * If a call returns anything but HLL_OK, or doesn't return because `resize` jumped out of it, the sketch is as it was, and the
+ * counter can be used and freed. Nothing that the call allocated is lost.
+ *
+ * Calls with a const hll_counter change nothing, so any number of threads may make them on one counter at once, if threads may
+ * call `resize` at once. During any other call on a counter no other thread may use it. To be read, a counter is copied if
+ * coupons wait or aren't sorted: to the stack, or by `resize` if that takes more than 2 KiB. hll_counter_settle adds and sorts
+ * them, so that readers copy nothing.
+ *
+ * This is plain C over the proved calls on states (bindings/c/counter.c), tested and not proved.
+ */
+
+#define HLL_COUNTER_WAITING 16
+
+/* Allocates `size` bytes if memory is NULL, frees memory if the size is 0, and otherwise resizes it, as realloc does. If the size
+ * is above 0, it may return NULL or not return: then memory is as it was. */
+typedef void *(*hll_resize)(void *context, void *memory, size_t size);
+
+/* Only the calls below use the members. */
+typedef struct hll_counter {
+    uint8_t *state; /* NULL, or a state */
+    size_t room;    /* its bytes */
+    uint8_t *spare; /* NULL, or a state that is to be freed */
+    hll_resize resize;
+    void *context;
+    uint8_t lg_k;       /* 0 if it is open */
+    uint8_t lg_max_k;   /* the bound of joins, or 0 for none */
+    uint8_t is_dense;   /* whether there are registers, and room for them alone */
+    uint8_t is_roomy;   /* whether there are registers, and more room */
+    uint8_t is_settled; /* whether no coupon waits, and calls that read the state change no byte of it */
+    uint8_t n_waiting;
+    uint32_t waiting[HLL_COUNTER_WAITING];
+} hll_counter;
+
+/* Makes an empty counter of an lg_k of 4 to 21; or one whose lg_k is open (0): the first image or counter with values that is
+ * joined decides it, and until then adding returns HLL_ARGUMENT (hll_state_new). If resize is NULL, it is that of malloc.
+ * Returns HLL_OK or HLL_ARGUMENT. Allocates nothing. */
+hll_status hll_counter_init(hll_counter *counter, unsigned lg_k, hll_resize resize, void *context);
+
+/* Frees the memory of a counter, which is then empty, with its bound as its lg_k. */
+void hll_counter_free(hll_counter *counter);
+
+/* Removes all values, and keeps the memory for others. The counter is then empty, with its bound as its lg_k. */
+void hll_counter_reset(hll_counter *counter);
+
+/* Add a value, values delimited by `ends` (all or none), or raw coupons (all or none).
+ * Return HLL_OK, HLL_ARGUMENT or HLL_MEMORY. */
+hll_status hll_counter_add(hll_counter *counter, const uint8_t *value, size_t len);
+hll_status hll_counter_add_many(hll_counter *counter, const uint8_t *values, size_t values_len, const size_t *ends,
+                                size_t n);
+hll_status hll_counter_add_coupons(hll_counter *counter, const uint32_t *coupons, size_t n);
+
+/* Join the sketch of an image, of n images (all or none), or of another counter. A counter that was initialised with an lg_k
+ * merges sketches of any lg_k, under it as the bound, and then has the smallest lg_k. An open one merges sketches of one lg_k, and
+ * returns HLL_OTHER_LG_K for another. If an image is rejected, hll_counter_join_many sets *failed, which may be NULL, to its
+ * number, counted from 0.
+ * Return HLL_OK, 1 to 11, HLL_MEMORY or HLL_OTHER_LG_K. */
+hll_status hll_counter_join(hll_counter *counter, const uint8_t *image, size_t len);
+hll_status hll_counter_join_many(hll_counter *counter, const hll_bytes *images, size_t n, size_t *failed);
+hll_status hll_counter_join_counter(hll_counter *counter, const hll_counter *other);
+
+/* Sets the bound of joins from now on: 0, with which the counter merges sketches of its lg_k only, or an lg_k of at least the
+ * counter's, with which it merges sketches of any. An open counter becomes a new one of that lg_k.
+ * Returns HLL_OK or HLL_ARGUMENT. */
+hll_status hll_counter_bind(hll_counter *counter, unsigned lg_max_k);
+
+/* Makes one counter the copy of another. Both are initialised, and `to` keeps its own resize.
+ * Returns HLL_OK or HLL_MEMORY. */
+hll_status hll_counter_copy(hll_counter *to, const hll_counter *from);
+
+/* Adds what waits and sorts the coupons, so that reading copies nothing. Returns HLL_OK or HLL_MEMORY. */
+hll_status hll_counter_settle(hll_counter *counter);
+
+/* Makes room for any number of values, so that adding allocates nothing until a shrink.
+ * Returns HLL_OK, HLL_MEMORY, or HLL_ARGUMENT if the lg_k is open. */
+hll_status hll_counter_reserve(hll_counter *counter);
+
+/* Frees the room that the sketch doesn't need. If resize returns NULL, the counter keeps it. */
+void hll_counter_shrink(hll_counter *counter);
+
+/* Writes the image at this width. Returns HLL_OK, HLL_ARGUMENT, HLL_MEMORY or HLL_BUFFER (*size is the size of the image). */
+hll_status hll_counter_image(const hll_counter *counter, unsigned width, uint8_t *out, size_t room, size_t *size);
+
+/* Estimates as hll_estimate does. Returns HLL_OK or HLL_MEMORY. */
+hll_status hll_counter_estimate(const hll_counter *counter, hll_estimation *estimation);
+
+/* Reports what the sketch is, as hll_state_info does; the size is that of a state with what waits.
+ * Returns HLL_OK, or HLL_ARGUMENT if summary_size is not sizeof *summary. */
+hll_status hll_counter_info(const hll_counter *counter, hll_state_summary *summary, size_t summary_size);
 
 /* ---- coupons ---- */
 
@@ -604,44 +736,6 @@ static inline size_t hll_image_header_size(const uint8_t *image, size_t len)
         count = HLL_CAST(size_t, 1) << image[4];
     }
     return header + (stage == HLL_SET ? 0 : (HLL_CAST(size_t, 1) << lg_k) / 2) + 4 * count;
-}
-
-/* Returns a 32-bit number in a state. */
-static inline uint32_t hll_state_number(const void *state, size_t at)
-{
-    return hll_number(HLL_CAST(const uint8_t *, state) + 4 * at);
-}
-
-/* Returns the lg_k of a state. */
-static inline uint8_t hll_state_lg_k(const void *state)
-{
-    return hll_state_number(state, 1) & 31;
-}
-
-/* Returns the width of the images that were merged into a state: 4, 6 or 8. Returns 8 if none counts, or if their widths differ.
- * If a state has no values, an image with values counts alone: the images before it no longer count. If a state has values, an
- * image without values doesn't count. */
-static inline uint8_t hll_state_width(const void *state)
-{
-    uint32_t widths = hll_state_number(state, 2) & 7;
-    return widths == 1 ? 4 : widths == 2 ? 6 : 8;
-}
-
-/* Returns HLL_REGISTERS if a state has registers, and HLL_SET if it has coupons, which may repeat. Its image is a list if at
- * most seven coupons are distinct, and has registers if there are too many coupons for a set. */
-static inline uint8_t hll_state_stage(const void *state)
-{
-    return hll_state_number(state, 0) == UINT32_C(0x4c484c42) ? HLL_REGISTERS : HLL_SET;
-}
-
-/* Returns the number of bytes that a state takes of its room. A copy of these bytes is a copy of the sketch. */
-static inline size_t hll_state_size(const void *state)
-{
-    uint8_t lg_k = hll_state_lg_k(state);
-    size_t used = hll_state_number(state, 6), few = lg_k < 8 ? 7 : HLL_CAST(size_t, 3) << (lg_k - 5);
-    if (hll_state_stage(state) == HLL_REGISTERS)
-        return HLL_STATE_NEW + (HLL_CAST(size_t, 1) << lg_k);
-    return used <= few ? HLL_STATE_NEW + 4 * used : HLL_STATE_MOST(lg_k);
 }
 
 /* Returns whether an untrusted image is quick to read: whether it has at most `most` bytes, and byte 3, its lg_k, is at most

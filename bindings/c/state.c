@@ -5,6 +5,7 @@
 #include "hll.h"
 
 hll_status proved_hll_state_new(unsigned lg_k, void *state, size_t elements);
+hll_status proved_hll_state_info(const void *state, size_t elements, hll_state_summary *summary, size_t summary_size);
 hll_status proved_hll_state_add(void *state, size_t elements, size_t *size, const uint8_t *values, size_t values_len,
                                 const size_t *ends, size_t n);
 hll_status proved_hll_state_add_value(void *state, size_t elements, size_t *size, const uint8_t *value, size_t len);
@@ -19,6 +20,11 @@ hll_status proved_hll_state_image(void *state, size_t elements, unsigned width, 
 hll_status hll_state_new(unsigned lg_k, void *state, size_t room)
 {
     return proved_hll_state_new(lg_k, state, room / 4);
+}
+
+hll_status hll_state_info(const void *state, size_t room, hll_state_summary *summary, size_t summary_size)
+{
+    return proved_hll_state_info(state, room / 4, summary, summary_size);
 }
 
 hll_status hll_state_add(void *state, size_t room, size_t *size, const uint8_t *values, size_t values_len,

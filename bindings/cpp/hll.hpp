@@ -11,11 +11,11 @@
 //     week.update_image(image.data(), image.size());
 //     std::cout << week.estimate() << " distinct values\n";
 //
-// Memory. A sketch and a union own their memory and free it: 76 bytes with up to nine values, then up to one and a half
-// times what their coupons need, which is four bytes for each value. Registers have one byte each, at every width.
-// Shortly before coupons become registers there is room for both (HLL_STATE_MOST). memory_size() returns the bytes, and
-// shrink_to_fit() frees those that are not used. Copies are independent. A sketch that was moved from is empty, and can
-// be used again.
+// Memory. A sketch and a union own their memory and free it. The object itself has 120 bytes, and holds up to 16 values.
+// With more it allocates 40 bytes and four for each value, and up to half as much again. Registers have one byte each and
+// 40 bytes, at every width. While coupons become registers there is room for both: at lg_k 12 from 401 to 528 values
+// (docs/CHOOSING.md, "Memory"). memory_size() returns the bytes that are allocated, and shrink_to_fit() frees those that
+// are not used. Copies are independent. A sketch that was moved from is empty, and can be used again.
 //
 // Exceptions. After an exception the object is as it was before the call.
 //     hll::image_error         the bytes are not the image of a sketch; status() and reason() say why. A stream that
@@ -28,10 +28,10 @@
 //     std::ios_base::failure   a stream did not take an image
 //
 // Threads. Several threads can call const members of one object at once, as with a container of the standard library.
-// While one thread calls another member, no other thread may use the object. The calls of hll.h that read a state may
-// sort its coupons, so a const member reads a copy of them: at 300 values an estimate takes 4 microseconds, and 1 if the
-// coupons are sorted already (bench.cpp). Sorting at each update would cost more, because sketches are updated more often
-// than they are read. Registers are read where they are, and an estimate of them allocates nothing.
+// While one thread calls another member, no other thread may use the object. A const member reads a copy of coupons that
+// aren't sorted: at 300 values an estimate takes 4 microseconds, and 1 if the coupons are sorted already (bench.cpp).
+// Sorting at each update would cost more, because sketches are updated more often than they are read. Registers and sorted
+// coupons are read where they are, and an estimate of them allocates nothing.
 #ifndef HLL_HPP
 #define HLL_HPP
 
@@ -141,7 +141,6 @@ namespace detail {
 
 constexpr unsigned default_lg_k = 12;
 constexpr size_t batch = 256; // values that are hashed before their coupons are added
-constexpr size_t first_room = HLL_STATE_NEW + 9 * sizeof(uint32_t); // the bytes that the library needs for the first value
 
 inline unsigned checked_lg_k(unsigned lg_k)
 {
@@ -219,133 +218,75 @@ inline void put(std::ostream &out, const std::vector<uint8_t> &bytes)
         throw std::ios_base::failure("a stream did not take the " + std::to_string(bytes.size()) + " bytes of an image");
 }
 
-/// Owns the bytes of a state (hll.h, "states"). If it has no bytes, the sketch is empty: a new state and a state that
-/// was moved from own no memory.
+/// Owns a counter (hll.h, "counters") whose memory is from malloc.
 class state {
   public:
-    explicit state(unsigned lg_k) : lg_k_(static_cast<uint8_t>(checked_lg_k(lg_k))) {}
-    state(const state &other) : bytes_(other.bytes_.data(), other.bytes_.data() + other.size()), lg_k_(other.lg_k_) {}
-    state(state &&other) noexcept : bytes_(std::move(other.bytes_)), lg_k_(other.lg_k_) { other.bytes_.clear(); }
+    /// Makes an empty sketch. lg_k is 4 to 21, or 0: then it is open.
+    explicit state(unsigned lg_k) { check(hll_counter_init(&counter_, checked_version(lg_k), nullptr, nullptr)); }
+
+    /// Copies the sketch of another state, to a state of its present lg_k.
+    static state of(const state &other)
+    {
+        state made(other.lg_k());
+        check(made.join(other));
+        return made;
+    }
+
+    state(const state &other) : state(other.counter_.lg_max_k) { check(hll_counter_copy(&counter_, &other.counter_)); }
+    state(state &&other) noexcept : counter_(other.counter_)
+    {
+        hll_counter_init(&other.counter_, counter_.lg_max_k, nullptr, nullptr);
+    }
+    ~state() { hll_counter_free(&counter_); }
     state &operator=(state other) noexcept
     {
         swap(other);
         return *this;
     }
 
-    void swap(state &other) noexcept
+    void swap(state &other) noexcept { std::swap(counter_, other.counter_); }
+    void clear() noexcept { hll_counter_free(&counter_); }
+
+    /// Returns the lg_k. While it is open, that is the default, or the greatest of the empty sketches that were merged.
+    unsigned lg_k() const noexcept
     {
-        bytes_.swap(other.bytes_);
-        std::swap(lg_k_, other.lg_k_);
+        const hll_state_summary said = summary();
+        return said.is_open ? std::max<unsigned>(default_lg_k, said.lg_k) : said.lg_k;
     }
+    bool is_open() const noexcept { return summary().is_open != 0; }
+    bool is_empty() const noexcept { return summary().is_empty != 0; }
+    bool has_registers() const noexcept { return summary().stage == HLL_REGISTERS; }
 
-    void clear() noexcept { std::vector<uint8_t>().swap(bytes_); }
-
-    unsigned lg_k() const noexcept { return bytes_.empty() ? lg_k_ : hll_state_lg_k(bytes_.data()); }
-    bool is_empty() const noexcept { return size() <= HLL_STATE_NEW; }
-    bool has_registers() const noexcept { return !bytes_.empty() && hll_state_stage(bytes_.data()) == HLL_REGISTERS; }
-
-    /// Makes a call that may change the sketch: call(bytes, room, &size). If it needs more room, grows and makes the
-    /// call again.
-    template <class Call> hll_status changed_by(Call call)
-    {
-        start();
-        for (;;) {
-            size_t size = 0;
-            hll_status status = call(bytes_.data(), bytes_.size(), &size);
-            if (status != HLL_BUFFER)
-                return status;
-            grow(size);
-        }
-    }
-
-    /// Keeps the present lg_k for the time when the sketch is cleared.
-    void keep_lg_k() noexcept { lg_k_ = static_cast<uint8_t>(lg_k()); }
+    hll_status add(const uint8_t *value, size_t len) { return hll_counter_add(&counter_, value, len); }
+    hll_status add(const uint32_t *coupons, size_t n) { return hll_counter_add_coupons(&counter_, coupons, n); }
 
     /// Grows to the most room that the sketch can need, so no later call needs more.
-    void grow_to_most() { grow(HLL_STATE_MOST(lg_k())); }
+    hll_status reserve() { return hll_counter_reserve(&counter_); }
 
-    /// Makes a call that reads the sketch: call(bytes, room). The call may sort coupons, so it gets a copy of them. It
-    /// changes no byte of a state that has registers (hll.h).
-    template <class Call> auto read(Call call) const -> decltype(call(static_cast<uint8_t *>(nullptr), size_t()))
-    {
-        if (has_registers())
-            return call(const_cast<uint8_t *>(bytes_.data()), bytes_.size());
-        state copy(*this);
-        copy.start();
-        return call(copy.bytes_.data(), copy.bytes_.size());
-    }
+    hll_status join(const uint8_t *image, size_t len) { return hll_counter_join(&counter_, image, len); }
+    hll_status join(const state &other) { return hll_counter_join_counter(&counter_, &other.counter_); }
 
-    hll_status join(unsigned lg_max_k, const uint8_t *image, size_t len)
-    {
-        return changed_by([=](uint8_t *bytes, size_t room, size_t *size) {
-            return hll_state_join(lg_max_k, bytes, room, size, image, len);
-        });
-    }
-
-    /// Merges another state, whose coupons may be sorted. It keeps its sketch.
-    hll_status join_sorted(unsigned lg_max_k, state &other)
-    {
-        other.start();
-        return join_bytes(lg_max_k, other.bytes_.data(), other.bytes_.size());
-    }
-
-    /// Merges another state.
-    hll_status join(unsigned lg_max_k, const state &other)
-    {
-        return other.read([this, lg_max_k](uint8_t *bytes, size_t room) { return join_bytes(lg_max_k, bytes, room); });
-    }
+    /// Sorts the coupons, so that reading copies nothing.
+    hll_status settle() { return hll_counter_settle(&counter_); }
 
     hll_estimation estimation() const
     {
-        return read([](uint8_t *bytes, size_t room) {
-            hll_estimation found;
-            check(hll_state_estimate(bytes, room, &found));
-            return found;
-        });
+        hll_estimation found;
+        check(hll_counter_estimate(&counter_, &found));
+        return found;
     }
 
     /// Returns the image after `before` bytes, which are 0.
     std::vector<uint8_t> image(width given, size_t before = 0) const
     {
-        return read([=](uint8_t *bytes, size_t room) { return image_of(bytes, room, given, before); });
-    }
-
-    /// Returns the size of the image.
-    size_t image_size(width given) const
-    {
-        return read([=](uint8_t *bytes, size_t room) {
-            size_t size = 0;
-            const hll_status status = hll_state_image(bytes, room, bits_of(given), nullptr, 0, &size);
-            if (status != HLL_BUFFER) // which is what no room gives
-                check(status);
-            return size;
-        });
-    }
-
-    /// Returns the bytes that are allocated.
-    size_t room() const noexcept { return bytes_.capacity(); }
-
-    /// Frees the bytes that the sketch doesn't use.
-    void shrink()
-    {
-        std::vector<uint8_t> exact(bytes_.data(), bytes_.data() + size());
-        bytes_.swap(exact);
-    }
-
-  private:
-    std::vector<uint8_t> bytes_;
-    uint8_t lg_k_; // if there are no bytes
-
-    size_t size() const noexcept { return bytes_.empty() ? 0 : hll_state_size(bytes_.data()); }
-
-    static std::vector<uint8_t> image_of(uint8_t *bytes, size_t room, width given, size_t before)
-    {
-        size_t size = hll_state_size(bytes); // enough for the image, unless 4-bit registers have many exceptions
+        const hll_state_summary said = summary();
+        // enough, unless 4-bit registers have many exceptions
+        size_t size = std::min<size_t>(static_cast<size_t>(said.size), HLL_IMAGE_ROOM(said.lg_k, 8));
         std::vector<uint8_t> out(before + size);
-        hll_status status = hll_state_image(bytes, room, bits_of(given), out.data() + before, size, &size);
+        hll_status status = image_in(out.data() + before, size, given);
         if (status == HLL_BUFFER) {
             out.resize(before + size);
-            status = hll_state_image(bytes, room, bits_of(given), out.data() + before, size, &size);
+            status = image_in(out.data() + before, size, given);
         }
         check(status);
         out.resize(before + size);
@@ -353,31 +294,47 @@ class state {
         return out;
     }
 
-    hll_status join_bytes(unsigned lg_max_k, uint8_t *other, size_t room_of_other)
+    /// Returns the size of the image.
+    size_t image_size(width given) const
     {
-        return changed_by([=](uint8_t *bytes, size_t room, size_t *size) {
-            return hll_state_join_state(lg_max_k, bytes, room, size, other, room_of_other);
-        });
+        size_t size = 0;
+        const hll_status status = image_in(nullptr, size, given);
+        if (status != HLL_BUFFER) // which is what no room gives
+            check(status);
+        return size;
     }
 
-    void start()
+    /// Returns the bytes that are allocated.
+    size_t room() const noexcept { return counter_.room; }
+
+    /// Frees the bytes that the sketch doesn't use. Coupons that are too many for a set become registers before.
+    void shrink() noexcept
     {
-        if (bytes_.empty()) {
-            check_version();
-            std::vector<uint8_t> fresh(first_room);
-            check(hll_state_new(lg_k_, fresh.data(), fresh.size()));
-            bytes_.swap(fresh);
-        }
+        if (room() > size_t(1) << lg_k())
+            hll_counter_settle(&counter_); // if an allocation fails, nothing has changed
+        hll_counter_shrink(&counter_);
     }
 
-    void grow(size_t room)
+  private:
+    hll_counter counter_;
+
+    hll_state_summary summary() const noexcept
     {
-        if (room <= bytes_.size())
-            return;
-        start();
-        std::vector<uint8_t> larger(room);
-        std::memcpy(larger.data(), bytes_.data(), size());
-        bytes_.swap(larger);
+        hll_state_summary said = {};
+        hll_counter_info(&counter_, &said, sizeof said);
+        return said;
+    }
+
+    /// Writes the image into `size` bytes, and sets the number to the size of the image.
+    hll_status image_in(uint8_t *out, size_t &size, width given) const
+    {
+        return hll_counter_image(&counter_, bits_of(given), out, size, &size);
+    }
+
+    static unsigned checked_version(unsigned lg_k)
+    {
+        check_version();
+        return lg_k;
     }
 };
 
@@ -494,9 +451,9 @@ class counter {
     void update(const void *value, size_t size)
     {
         const uint8_t *bytes = checked_bytes(value, size);
-        check(state_.changed_by([=](uint8_t *state, size_t room, size_t *needed) {
-            return hll_state_add_value(state, room, needed, bytes, size);
-        }));
+        const hll_status status = state_.add(bytes, size);
+        if (status != HLL_OK)
+            checked(status, [=](counter &decided) { decided.update(value, size); });
     }
 
     /// Adds n values, all or none: numbers, texts, or containers of bytes. Takes about half the time of adding them
@@ -508,9 +465,11 @@ class counter {
         checked_bytes(values, n);
         uint32_t coupons[batch];
         if (n > batch && !state_.has_registers()) {
-            if (n <= HLL_STATE_MOST(lg_k()) / 8)
+            if (n <= (size_t(1) << lg_k()) / 4) // their coupons take no more than registers
                 return update_at_once(values, n);
-            state_.grow_to_most(); // so no batch fails with bad_alloc after others were added
+            const hll_status status = state_.reserve(); // so no batch fails with bad_alloc after others were added
+            if (status != HLL_OK)
+                return checked(status, [=](counter &decided) { decided.update_many(values, n); });
         }
         for (size_t done = 0; done < n; done += batch) {
             const size_t some = std::min(batch, n - done);
@@ -584,9 +543,19 @@ class counter {
   private:
     void add(const uint32_t *coupons, size_t n)
     {
-        check(state_.changed_by([=](uint8_t *state, size_t room, size_t *needed) {
-            return hll_state_add_coupons(state, room, needed, coupons, n);
-        }));
+        const hll_status status = state_.add(coupons, n);
+        if (status != HLL_OK)
+            checked(status, [=](counter &decided) { decided.add(coupons, n); });
+    }
+
+    /// Adds values where a status says that it can't be done: if the lg_k is open, they decide it.
+    template <class Add> void checked(hll_status status, Add add_to)
+    {
+        if (status != HLL_ARGUMENT || !state_.is_open())
+            return check(status);
+        counter decided{state(lg_k())};
+        add_to(decided);
+        check(state_.join(decided.state_));
     }
 
     /// Adds the coupons of all values by one call.
@@ -613,7 +582,7 @@ class sketch : public detail::counter {
   public:
     /// Makes an empty sketch of 2^lg_k registers; lg_k is 4 to 21. The width is that of its images.
     explicit sketch(unsigned lg_k = detail::default_lg_k, hll::width width = hll::width::hll_8)
-        : counter(detail::state(lg_k)), width_(width)
+        : counter(detail::state(detail::checked_lg_k(lg_k))), width_(width)
     {
     }
 
@@ -628,7 +597,7 @@ class sketch : public detail::counter {
         const unsigned lg_k = hll_image_lg_k(bytes, size), bits = hll_image_width(bytes, size);
         sketch made(lg_k ? lg_k : detail::default_lg_k,
                     width_of(bits ? bits : 8)); // if the header is wrong, join returns the reason
-        const hll_status status = made.state_.join(made.lg_k(), bytes, size);
+        const hll_status status = made.state_.join(bytes, size);
         if (detail::is_refusal(status))
             throw image_error(status, size);
         detail::check(status);
@@ -692,7 +661,7 @@ class sketch : public detail::counter {
 
   private:
     friend class union_;
-    sketch(detail::state given, hll::width width) : counter(std::move(given)), width_(width) { state_.keep_lg_k(); }
+    sketch(detail::state given, hll::width width) noexcept : counter(std::move(given)), width_(width) {}
 
     hll::width width_;
 };
@@ -720,24 +689,31 @@ class union_ : public detail::counter {
   public:
     /// Makes a union that merges sketches of every lg_k. Its lg_k is lg_max_k, 4 to 21, or the smallest lg_k of the
     /// merged sketches with registers, if that is smaller.
-    explicit union_(unsigned lg_max_k) : counter(detail::state(lg_max_k)), lg_max_k_(static_cast<uint8_t>(lg_max_k)) {}
+    explicit union_(unsigned lg_max_k)
+        : counter(detail::state(detail::checked_lg_k(lg_max_k))), lg_max_k_(static_cast<uint8_t>(lg_max_k))
+    {
+    }
 
     /// Makes a union without a bound. It takes the lg_k of the first sketch that is not empty, and throws lg_k_error
     /// for a sketch of another lg_k. If a value is added first, its lg_k is 12.
-    union_() : counter(detail::state(detail::default_lg_k)), lg_max_k_(0) {}
+    union_() : counter(detail::state(0)), lg_max_k_(0) {}
 
     using counter::update;
 
     /// Merges a sketch. A sketch that is passed by std::move is merged without a copy, and keeps its values.
-    void update(const sketch &other) { joined(state_.join(lg_max_k_, other.state_), other.lg_k()); }
-    void update(sketch &&other) { joined(state_.join_sorted(lg_max_k_, other.state_), other.lg_k()); }
+    void update(const sketch &other) { joined(state_.join(other.state_), other.lg_k()); }
+    void update(sketch &&other)
+    {
+        detail::check(other.state_.settle());
+        update(other);
+    }
 
     /// Merges an image without making a sketch of it. Bytes after the image are not read. If the bytes are untrusted,
     /// call is_small first.
     void update_image(const void *image, size_t size)
     {
         const uint8_t *bytes = detail::checked_bytes(image, size);
-        joined(state_.join(lg_max_k_, bytes, size), hll_image_lg_k(bytes, size), size);
+        joined(state_.join(bytes, size), hll_image_lg_k(bytes, size), size);
     }
     void update_image(const std::vector<uint8_t> &image) { update_image(image.data(), image.size()); }
 
@@ -768,7 +744,7 @@ class union_ : public detail::counter {
     }
 
     /// Returns the union as a sketch.
-    sketch result(hll::width width = hll::width::hll_8) const { return sketch(state_, width); }
+    sketch result(hll::width width = hll::width::hll_8) const { return sketch(detail::state::of(state_), width); }
 
     /// Returns the bound, or 0 if there is none.
     unsigned lg_max_k() const noexcept { return lg_max_k_; }
@@ -785,7 +761,7 @@ class union_ : public detail::counter {
     {
         union_ copy(*this);
         for (size_t i = 0; i < n; i++) {
-            const hll_status status = copy.state_.join(0, images[i].bytes, images[i].len);
+            const hll_status status = copy.state_.join(images[i].bytes, images[i].len);
             if (detail::is_refusal(status))
                 throw image_error(status, images[i].len, i);
             copy.joined(status, hll_image_lg_k(images[i].bytes, images[i].len));

@@ -1,6 +1,8 @@
 # SPDX-License-Identifier: Apache-2.0
 """The tests of hll_sketches.dask, on a cluster of three worker processes; `check` runs them by a Python that has Dask."""
+import datetime
 import functools
+import io
 import logging
 import os
 import pathlib
@@ -11,9 +13,11 @@ import subprocess
 import sys
 import tempfile
 import time
+import types
 from unittest import mock
 
 import dask.bag
+import dask.callbacks
 import dask.dataframe
 import fsspec
 import pandas
@@ -160,11 +164,11 @@ def left_out(client, folder, images, paths):
     frame = pandas.DataFrame({"day": [1, 1, 2, 2], "image": [images[0], b"", images[1], images[2]]})
     found = by_key_at_12(dask.dataframe.from_pandas(frame, npartitions=1), "day", "image", on_error="skip").compute()
     equal("rows skipped", (found.union.to_dict(), found.refused),
-          ({1: union_by_program(images[:1]), 2: union_by_program(images[1:3])}, [("partition 0, row 1", "truncated")]))
+          ({1: union_by_program(images[:1]), 2: union_by_program(images[1:3])}, [("key 1, partition 0, row 1", "truncated")]))
     frame = pandas.DataFrame({"day": [n % 2 for n in range(40)], "image": [images[n] if n % 9 else b"" for n in range(40)]})
     parts = dask.dataframe.from_pandas(frame, npartitions=10)
     found = by_key_at_12(parts, "day", "image", on_error="skip", split_every=2).compute()
-    wanted = [("partition %d, row %d" % divmod(n, 4), "truncated") for n in range(0, 40, 9)]
+    wanted = [("key %d, partition %d, row %d" % (n % 2, *divmod(n, 4)), "truncated") for n in range(0, 40, 9)]
     equal("rows skipped in a tree", found.refused, wanted)
     try:
         union_of_files(paths, on_error="ignore")
@@ -235,7 +239,48 @@ def aggregations(client, folder, images, paths):
 
     frame.loc[777, "image"] = images[5][:6]
     bad = dask.dataframe.from_pandas(frame, npartitions=13).groupby("day")["image"].agg(union_aggregation(12))
-    equal("a refused row of a group", error_of(bad)[::2], ("truncated", "row 777"))
+    equal("a refused row of a group", error_of(bad)[::2], ("truncated", "key %s, row 777" % frame["day"][777]))
+    refused_values()
+
+
+def refused_values():
+    """A value that can't be counted is named with the key of its group."""
+    for value, kind in ((2**70, OverflowError), (datetime.date(2026, 11, 1), TypeError)):
+        frame = pandas.DataFrame({"page": ["/a", "/b", "/b"], "value": pandas.Series([1, 2, value], dtype=object)})
+        try:
+            dask.dataframe.from_pandas(frame, npartitions=1).groupby("page")["value"].agg(sketch_aggregation()).compute()
+            told = None
+        except kind as error:
+            told = str(error)
+        check("the key of a value that is refused", str(told).startswith("key '/b': "), told)
+
+
+def progress_is_shown(client, folder, images, paths):
+    """Of the tasks of this machine's schedulers, if standard error is a terminal and tqdm is there."""
+    made = union_of_files(paths[:300], 12, 8, files_per_task=30)
+    wanted = made.compute().to_bytes()
+    with hll_sketches.dask.progress():
+        equal("no terminal", image_by(made), wanted)
+    seen = []
+
+    class Shown(io.StringIO):
+        def isatty(self):
+            return True
+
+    class Callback(dask.callbacks.Callback):
+        def __init__(self, **more):
+            super().__init__(start=lambda graph: seen.append(len(graph)), posttask=lambda *_: seen.append(1))
+            seen.append((more["delay"], more["leave"]))
+
+    modules = {"tqdm": types.ModuleType("tqdm"), "tqdm.dask": types.SimpleNamespace(TqdmCallback=Callback)}
+    with mock.patch.object(sys, "stderr", Shown()), mock.patch.dict(sys.modules, modules):
+        with hll_sketches.dask.progress():
+            equal("with progress", made.compute(scheduler="threads").to_bytes(), wanted)
+    equal("its delay", seen[0], (1.0, False))
+    check("all tasks are counted", sum(seen[2:]) == seen[1] > 10, seen)
+    with mock.patch.object(sys, "stderr", Shown()), mock.patch.dict(sys.modules, {"tqdm": None, "tqdm.dask": None}):
+        with hll_sketches.dask.progress():
+            equal("without tqdm", made.compute(scheduler="threads").to_bytes(), wanted)
 
 
 def arguments(client, folder, images, paths):
@@ -297,8 +342,10 @@ def precision(client, folder, images, paths):
     equal("an odd item", refused_lg_k(union_of_bag(bag)), ({11, 14}, "partition 0, item 30"))
     frame.loc[40, "image"] = odd.to_bytes()
     table = dask.dataframe.from_pandas(frame, npartitions=1)
-    equal("an odd row", refused_lg_k(union_by_key(table, "day", "image")), ({11, 14}, "partition 0, row 40"))
-    equal("an odd row of a group", refused_lg_k(table.groupby("day")["image"].agg(union_aggregation())), ({11, 14}, "row 40"))
+    equal("an odd row", refused_lg_k(union_by_key(table, "day", "image")), ({11, 14}, "key 1, partition 0, row 40"))
+    equal("an odd row of a group", refused_lg_k(table.groupby("day")["image"].agg(union_aggregation())), ({11, 14}, "key 1, row 40"))
+    table = dask.dataframe.from_pandas(frame, npartitions=len(frame))
+    equal("an odd part of a group", refused_lg_k(table.groupby("day")["image"].agg(union_aggregation())), ({11, 14}, "a part of key 1"))
     both = union_of([*sketches, odd], 14, 4).to_bytes()
     equal("with a bound", image_by(union_of_files(files, 14, 4)), both)
 
@@ -369,7 +416,7 @@ def keys(client, folder, images, paths):
     arrow(frame[:1000])
     frame.loc[1537, "image"] = frame["image"][1537][:7]
     bad = dask.dataframe.from_pandas(frame, chunksize=100, sort=False)
-    equal("refused row", error_of(by_key_at_12(bad, "day", "image")), ("truncated", 37, "partition 15, row 37"))
+    equal("refused row", error_of(by_key_at_12(bad, "day", "image")), ("truncated", 37, "key %s, partition 15, row 37" % frame["day"][1537]))
 
 
 def arrow(frame):
@@ -421,7 +468,7 @@ def lost_worker(client, folder, images, paths):
 
 
 PARTS = [
-    files, refused_files, patterns, left_out, large_files, aggregations, arguments, precision, missing_values, several_aggregations, bags, keys,
+    files, refused_files, patterns, left_out, large_files, aggregations, progress_is_shown, arguments, precision, missing_values, several_aggregations, bags, keys,
     columns, lost_worker]
 
 

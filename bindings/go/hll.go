@@ -10,6 +10,9 @@
 //	found, err := all.Estimate()
 //
 // An error leaves the sketch as it was. One goroutine at a time uses a sketch, also to read it; different sketches share nothing.
+//
+// The memory of a sketch is C's. The garbage collector frees it with the sketch, but doesn't count it: a program that makes many
+// large sketches should call Close where it needs one no longer.
 package hll
 
 // #include "hll.h"
@@ -21,6 +24,7 @@ import (
 	"errors"
 	"fmt"
 	"math"
+	"runtime"
 	"unsafe"
 )
 
@@ -75,28 +79,44 @@ func start(bytes []byte) *C.uint8_t {
 // batch is the number of values that are added by one call: a call from Go into C takes about as long as adding ten.
 const batch = 256
 
+// counter is a counter of hll.h. It has an allocation of its own, so that its memory is freed once, whoever copies a Sketch.
+type counter struct{ c C.hll_counter }
+
+// newCounter returns an empty counter, whose bound is its lg_k.
+func newCounter(lgK int) (*counter, error) {
+	made := &counter{}
+	if status := C.hll_counter_init(&made.c, C.uint(lgK), nil, nil); status != C.HLL_OK {
+		return nil, errorOf(status, 0)
+	}
+	runtime.SetFinalizer(made, func(c *counter) { C.hll_counter_free(&c.c) })
+	return made, nil
+}
+
 // Sketch counts distinct values. Make it with New, NewUnion or Read.
 type Sketch struct {
-	state  []byte // of hll.h
-	lgMaxK C.uint
-	values []byte // that wait, concatenated
-	ends   []C.size_t
+	counter *counter
+	values  []byte // that wait, concatenated
+	ends    []C.size_t
 }
 
 // New returns an empty sketch of 2^lgK registers; lgK is 4 to 21. At 12 its standard error is 1.6 %. Only sketches of this lgK are
 // merged into it.
-func New(lgK int) (*Sketch, error) { return made(lgK, 0) }
+func New(lgK int) (*Sketch, error) {
+	s, err := NewUnion(lgK)
+	if err == nil {
+		err = errorOf(C.hll_counter_bind(&s.counter.c, 0), 0)
+	}
+	return s, err
+}
 
 // NewUnion returns an empty sketch into which sketches of every lg_k are merged. Its lg_k is lgMaxK, or the smallest of a merged
 // sketch with registers, if that is smaller.
-func NewUnion(lgMaxK int) (*Sketch, error) { return made(lgMaxK, C.uint(lgMaxK)) }
-
-func made(lgK int, lgMaxK C.uint) (*Sketch, error) {
-	if lgK < 4 || lgK > 21 {
-		return nil, fmt.Errorf("lg_k is %d; it must be 4 to 21", lgK)
+func NewUnion(lgMaxK int) (*Sketch, error) {
+	if lgMaxK < 4 || lgMaxK > 21 {
+		return nil, fmt.Errorf("lg_k is %d; it must be 4 to 21", lgMaxK)
 	}
-	s := &Sketch{state: make([]byte, int(C.HLL_STATE_NEW)), lgMaxK: lgMaxK}
-	return s, errorOf(C.hll_state_new(C.uint(lgK), s.first(), s.room()), 0)
+	made, err := newCounter(lgMaxK)
+	return &Sketch{counter: made}, err
 }
 
 // Read returns the sketch of an image, which is checked whole. Bytes after the image are ignored. If the image is untrusted, call
@@ -121,32 +141,17 @@ func IsSmall(image []byte) bool {
 	return C.hll_is_small(start(image), C.size_t(len(image)), 12, 8192) != 0
 }
 
-func (s *Sketch) first() unsafe.Pointer { return unsafe.Pointer(&s.state[0]) }
-func (s *Sketch) room() C.size_t        { return C.size_t(len(s.state)) }
-
-// change makes a call that may change the sketch, and makes it again where it needs more room.
-func (s *Sketch) change(size int, call func(state unsafe.Pointer, room C.size_t, needed *C.size_t) C.hll_status) error {
-	for {
-		var needed C.size_t
-		status := call(s.first(), s.room(), &needed)
-		if status != C.HLL_BUFFER {
-			return errorOf(status, size)
-		}
-		s.state = append(s.state, make([]byte, int(needed)-len(s.state))...)
-	}
+// Close frees the memory of the sketch, which can't be used after that. It may be called again, or not at all.
+func (s *Sketch) Close() {
+	C.hll_counter_free(&s.counter.c)
+	s.values, s.ends = nil, nil
 }
 
 // Add adds a value by its bytes.
-func (s *Sketch) Add(value []byte) error {
-	s.values = append(s.values, value...)
-	return s.added()
-}
+func (s *Sketch) Add(value []byte) error { return add(s, value) }
 
 // AddString adds a string by its bytes, which should be UTF-8.
-func (s *Sketch) AddString(value string) error {
-	s.values = append(s.values, value...)
-	return s.added()
-}
+func (s *Sketch) AddString(value string) error { return add(s, value) }
 
 // AddInt adds an integer by its eight bytes.
 func (s *Sketch) AddInt(value int64) error { return s.AddUint(uint64(value)) }
@@ -169,24 +174,35 @@ func (s *Sketch) AddFloat(value float64) error {
 	return s.AddUint(math.Float64bits(value))
 }
 
-func (s *Sketch) added() error {
-	s.ends = append(s.ends, C.size_t(len(s.values)))
-	if len(s.ends) < batch {
-		return nil
+// add lets a value wait, and adds those that wait before it if no other may wait.
+func add[Bytes []byte | string](s *Sketch, value Bytes) error {
+	if len(s.ends) == batch {
+		if err := s.flush(); err != nil {
+			return err
+		}
 	}
-	return s.settle()
+	s.values = append(s.values, value...)
+	s.ends = append(s.ends, C.size_t(len(s.values)))
+	return nil
 }
 
-// settle adds the values that wait.
-func (s *Sketch) settle() error {
+// flush adds the values that wait, and keeps their memory for others.
+func (s *Sketch) flush() error {
 	if len(s.ends) == 0 {
 		return nil
 	}
-	err := s.change(0, func(state unsafe.Pointer, room C.size_t, needed *C.size_t) C.hll_status {
-		return C.hll_state_add(state, room, needed, start(s.values), C.size_t(len(s.values)), &s.ends[0], C.size_t(len(s.ends)))
-	})
+	err := errorOf(C.hll_counter_add_many(&s.counter.c, start(s.values), C.size_t(len(s.values)), &s.ends[0], C.size_t(len(s.ends))), 0)
 	if err == nil {
 		s.values, s.ends = s.values[:0], s.ends[:0]
+	}
+	return err
+}
+
+// settle adds the values that wait, and frees their memory.
+func (s *Sketch) settle() error {
+	err := s.flush()
+	if err == nil {
+		s.values, s.ends = nil, nil
 	}
 	return err
 }
@@ -197,9 +213,7 @@ func (s *Sketch) MergeImage(image []byte) error {
 	if err := s.settle(); err != nil {
 		return err
 	}
-	return s.change(len(image), func(state unsafe.Pointer, room C.size_t, needed *C.size_t) C.hll_status {
-		return C.hll_state_join(s.lgMaxK, state, room, needed, start(image), C.size_t(len(image)))
-	})
+	return errorOf(C.hll_counter_join(&s.counter.c, start(image), C.size_t(len(image))), len(image))
 }
 
 // Merge merges another sketch, which keeps its values.
@@ -213,9 +227,7 @@ func (s *Sketch) Merge(other *Sketch) error {
 	if err := other.settle(); err != nil {
 		return err
 	}
-	return s.change(0, func(state unsafe.Pointer, room C.size_t, needed *C.size_t) C.hll_status {
-		return C.hll_state_join_state(s.lgMaxK, state, room, needed, other.first(), other.room())
-	})
+	return errorOf(C.hll_counter_join_counter(&s.counter.c, &other.counter.c), 0)
 }
 
 // Image returns the image at a width.
@@ -223,9 +235,9 @@ func (s *Sketch) Image(width Width) ([]byte, error) {
 	if err := s.settle(); err != nil {
 		return nil, err
 	}
-	for room := 64 + len(s.state); ; {
+	for room := 64 + int(s.summary().size); ; {
 		image, size := make([]byte, room), C.size_t(0)
-		status := C.hll_state_image(s.first(), s.room(), C.uint(width), start(image), C.size_t(room), &size)
+		status := C.hll_counter_image(&s.counter.c, C.uint(width), start(image), C.size_t(room), &size)
 		if status != C.HLL_BUFFER {
 			return image[:size:size], errorOf(status, 0)
 		}
@@ -249,7 +261,7 @@ func (s *Sketch) Estimate() (Estimation, error) {
 		return Estimation{}, err
 	}
 	var found C.hll_estimation
-	if err := errorOf(C.hll_state_estimate(s.first(), s.room(), &found), 0); err != nil {
+	if err := errorOf(C.hll_counter_estimate(&s.counter.c, &found), 0); err != nil {
 		return Estimation{}, err
 	}
 	made := Estimation{Estimate: float64(found.estimate), RelativeStandardError: float64(found.relative_standard_error)}
@@ -259,21 +271,32 @@ func (s *Sketch) Estimate() (Estimation, error) {
 	return made, nil
 }
 
-// LgK returns the lg_k of the sketch.
-func (s *Sketch) LgK() int { return int(C.hll_state_lg_k(s.first())) }
-
-// IsEmpty returns whether no value was added.
-func (s *Sketch) IsEmpty() bool {
-	return len(s.ends) == 0 && C.hll_state_size(s.first()) <= C.HLL_STATE_NEW
+// summary returns what the counter says.
+func (s *Sketch) summary() C.hll_state_summary {
+	var said C.hll_state_summary
+	C.hll_counter_info(&s.counter.c, &said, C.sizeof_hll_state_summary)
+	return said
 }
 
-// Clone returns a copy.
+// LgK returns the lg_k of the sketch.
+func (s *Sketch) LgK() int { return int(s.summary().lg_k) }
+
+// IsEmpty returns whether no value was added.
+func (s *Sketch) IsEmpty() bool { return len(s.ends) == 0 && s.summary().is_empty == 1 }
+
+// Clone returns a copy. It panics if an allocation fails.
 func (s *Sketch) Clone() *Sketch {
+	made, err := newCounter(int(s.counter.c.lg_max_k))
+	if err == nil {
+		err = errorOf(C.hll_counter_copy(&made.c, &s.counter.c), 0)
+	}
+	if err != nil {
+		panic(err)
+	}
 	return &Sketch{
-		state:  append([]byte(nil), s.state[:C.hll_state_size(s.first())]...),
-		lgMaxK: s.lgMaxK,
-		values: append([]byte(nil), s.values...),
-		ends:   append([]C.size_t(nil), s.ends...),
+		counter: made,
+		values:  append([]byte(nil), s.values...),
+		ends:    append([]C.size_t(nil), s.ends...),
 	}
 }
 

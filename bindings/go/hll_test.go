@@ -9,8 +9,13 @@ import (
 	"errors"
 	"fmt"
 	"math"
+	"os"
+	"runtime"
+	"strconv"
+	"strings"
 	"sync"
 	"testing"
+	"time"
 )
 
 func must[T any](t *testing.T) func(T, error) T {
@@ -188,6 +193,48 @@ func TestShards(t *testing.T) {
 	}
 	if !bytes.Equal(imageOf(t, all), imageOf(t, filled(t, 11, 0, 5000))) {
 		t.Error("shards differ from the whole")
+	}
+}
+
+// mostMemory returns the most kilobytes that this process has had in memory.
+func mostMemory(t *testing.T) int {
+	t.Helper()
+	status := must[[]byte](t)(os.ReadFile("/proc/self/status"))
+	_, most, _ := strings.Cut(string(status), "VmHWM:")
+	return must[int](t)(strconv.Atoi(strings.Fields(most)[0]))
+}
+
+// Sketches of 256 megabytes in all, whose memory is given back by Close, or by the garbage collector.
+func TestMemory(t *testing.T) {
+	image := imageOf(t, filled(t, 16, 0, 100000))
+	before := mostMemory(t)
+	for _, isClosed := range []bool{true, false} {
+		for i := 0; i < 4000; i++ {
+			s := must[*Sketch](t)(Read(image))
+			if isClosed {
+				s.Close()
+				s.Close()
+			} else if i%100 == 0 {
+				runtime.GC()
+				time.Sleep(time.Millisecond) // for the finalizers
+			}
+		}
+		if more := mostMemory(t) - before; more > 64<<10 {
+			t.Error(isClosed, more)
+		}
+	}
+}
+
+// Whoever copies the struct shares its counter, which is freed once.
+func TestCopiedStruct(t *testing.T) {
+	for i := 0; i < 100; i++ {
+		s := filled(t, 12, 0, 1000)
+		copied := *s
+		s = nil
+		runtime.GC()
+		if found := must[Estimation](t)(copied.Estimate()); found.Estimate < 900 {
+			t.Fatal(found)
+		}
 	}
 }
 

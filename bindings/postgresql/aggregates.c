@@ -87,39 +87,33 @@ next_row(FunctionCallInfo fcinfo, const char *lg_k_name, uint8 lg_k, uint8 width
 	else
 		group = (Group *) PG_GETARG_POINTER(0);
 	check_same(group, lg_k, width);
-	group->rows++;
 	return group;
 }
 
-/*
- * Raises an error for a sketch of another lg_k without a bound. The error names the row if its number is that in the group,
- * and not if workers count their own rows.
- */
+/* Raises an error for a sketch of another lg_k without a bound. */
 static void
-refuse_other_lg_k(FunctionCallInfo fcinfo, uint8 lg_k, uint8 other, int64 row)
+refuse_other_lg_k(FunctionCallInfo fcinfo, uint8 lg_k, uint8 other)
 {
 	Aggref	   *aggregate = AggGetAggref(fcinfo);
 	const char *name = aggregate == NULL ? "hyperloglog_union_agg" : get_func_name(aggregate->aggfnoid);
 
-	if (aggregate != NULL && aggregate->aggsplit != AGGSPLIT_SIMPLE)
-		row = 0;
 	ereport(ERROR,
 			(errcode(ERRCODE_DATA_EXCEPTION),
 			 errmsg("sketches of lg_k %d and %d can't be merged without a bound", lg_k, other),
-			 row == 0 ? 0 : errdetail("Row " INT64_FORMAT " of the group is the first with lg_k %d.", row, other),
-			 errhint("Give the bound: %s(sketch, %d) merges them at lg_k %d.", name, Min(lg_k, other), Min(lg_k, other))));
+			 errhint("Give the bound: %s(sketch, %d) merges them at lg_k %d. SELECT (hll_info(sketch)).lg_k, count(*) .. GROUP BY 1 "
+					 "counts the sketches of each lg_k.", name, Min(lg_k, other), Min(lg_k, other))));
 }
 
 /* Merges the image of a row into its group. */
 static void
 join_row(FunctionCallInfo fcinfo, Group *group, bytea *image)
 {
-	State	   *state = state_of(group);
-	hll_status	status = join_image(state, group->lg_k, IMAGE(image));
+	hll_counter *counter = counter_of(group);
+	hll_status	status = join_image(counter, IMAGE(image));
 
 	if (status == HLL_OTHER_LG_K)
-		refuse_other_lg_k(fcinfo, hll_state_lg_k(state->bytes), named_lg_k(IMAGE(image)), group->rows);
-	check_row_status(status, group->rows);
+		refuse_other_lg_k(fcinfo, summary_of(counter).lg_k, named_lg_k(IMAGE(image)));
+	check_status(status);
 }
 
 PG_FUNCTION_INFO_V1(hll_pg_union_trans);
@@ -147,7 +141,7 @@ hll_pg_union_bytea_trans(PG_FUNCTION_ARGS)
 	{
 		bytea	   *image = PG_GETARG_BYTEA_PP(1);
 
-		check_whole(IMAGE(image), "row", group->rows);
+		check_whole(IMAGE(image), 0);
 		join_row(fcinfo, group, image);
 	}
 	PG_RETURN_POINTER(group);
@@ -175,54 +169,46 @@ hll_pg_combine(PG_FUNCTION_ARGS)
 	if (group == NULL)
 		group = new_group(context_of_states(context), other->lg_k, other->width);
 	check_same(group, other->lg_k, other->width);
-	if (has_state(other) && join_state(state_of(group), group->lg_k, state_of(other)) == HLL_OTHER_LG_K)
-		refuse_other_lg_k(fcinfo, hll_state_lg_k(group->state.bytes), hll_state_lg_k(other->state.bytes), 0);
+	if (has_rows(other) && join_counter(counter_of(group), &other->counter) == HLL_OTHER_LG_K)
+		refuse_other_lg_k(fcinfo, summary_of(&group->counter).lg_k, summary_of(&other->counter).lg_k);
 	PG_RETURN_POINTER(group);
 }
 
-/* What a worker sends: a header, and the sketch if there is one. Sender and receiver are one server. */
+/* What a worker sends: a header, and the image of the sketch if there is one. Sender and receiver are one server. */
 typedef struct Sent
 {
 	uint8		lg_k;
 	uint8		width;
-	uint8		is_state;		/* whether the sketch is a state; otherwise it is an image */
 } Sent;
 
 static Datum
-bytes_to_send(const Group *group, bool is_state, const uint8 *sketch, size_t size)
+bytes_to_send(const Group *group, const uint8 *image, size_t size)
 {
-	Sent		sent = {group->lg_k, group->width, is_state};
+	Sent		sent = {group->lg_k, group->width};
 	bytea	   *bytes = palloc(VARHDRSZ + sizeof(Sent) + size);
 
 	SET_VARSIZE(bytes, VARHDRSZ + sizeof(Sent) + size);
 	memcpy(VARDATA(bytes), &sent, sizeof(Sent));
 	if (size > 0)
-		memcpy(VARDATA(bytes) + sizeof(Sent), sketch, size);
+		memcpy(VARDATA(bytes) + sizeof(Sent), image, size);
 	return PointerGetDatum(bytes);
 }
 
 PG_FUNCTION_INFO_V1(hll_pg_serial);
 
-/*
- * Sends coupons as an image, which is smaller than their state, at the width that the state has; and registers as their
- * state, which is as small. (If the images have different widths, the width is 8 from then on, as it would be for all
- * together.)
- */
+/* Sends the image at the width of the images so far. (If they have different widths, the width is 8 from then on, as it would
+ * be for all together.) */
 Datum
 hll_pg_serial(PG_FUNCTION_ARGS)
 {
 	Group	   *group = (Group *) PG_GETARG_POINTER(0);
-	State	   *state;
 	bytea	   *image;
 
 	(void) aggregate_context(fcinfo);
-	if (!has_state(group))
-		return bytes_to_send(group, false, NULL, 0);
-	state = state_of(group);
-	if (hll_state_stage(state->bytes) == HLL_REGISTERS)
-		return bytes_to_send(group, true, state->bytes, hll_state_size(state->bytes));
-	image = image_of_state(state, hll_state_width(state->bytes));
-	return bytes_to_send(group, false, IMAGE(image));
+	if (!has_rows(group))
+		return bytes_to_send(group, NULL, 0);
+	image = image_of_counter(&group->counter, summary_of(&group->counter).width);
+	return bytes_to_send(group, IMAGE(image));
 }
 
 PG_FUNCTION_INFO_V1(hll_pg_deserial);
@@ -231,7 +217,7 @@ Datum
 hll_pg_deserial(PG_FUNCTION_ARGS)
 {
 	bytea	   *bytes = PG_GETARG_BYTEA_PP(0);
-	const uint8 *sketch = BYTES(bytes) + sizeof(Sent);
+	const uint8 *image = BYTES(bytes) + sizeof(Sent);
 	size_t		size = LENGTH(bytes) - sizeof(Sent);
 	Sent		sent = {0};
 	Group	   *group;
@@ -239,16 +225,11 @@ hll_pg_deserial(PG_FUNCTION_ARGS)
 	(void) aggregate_context(fcinfo);
 	if (LENGTH(bytes) >= sizeof(Sent))
 		memcpy(&sent, BYTES(bytes), sizeof(Sent));
-	if (LENGTH(bytes) < sizeof(Sent) || (sent.is_state && size < HLL_STATE_NEW))
+	if (LENGTH(bytes) < sizeof(Sent))
 		elog(ERROR, "the bytes are no state of an HLL aggregate");
 	group = new_group(CurrentMemoryContext, sent.lg_k, sent.width);
-	if (sent.is_state)
-		group->state = copied_state(CurrentMemoryContext, sketch, size);
-	else if (size > 0)
-	{
-		CHECK_FOR_INTERRUPTS();
-		check_status(join_image(state_of(group), group->lg_k, sketch, size));
-	}
+	if (size > 0)
+		check_status(join_image(counter_of(group), image, size));
 	PG_RETURN_POINTER(group);
 }
 
@@ -261,14 +242,12 @@ Datum
 hll_pg_final(PG_FUNCTION_ARGS)
 {
 	Group	   *group;
-	State	   *state;
 
 	(void) aggregate_context(fcinfo);
 	if (PG_ARGISNULL(0))
 		PG_RETURN_NULL();
 	group = (Group *) PG_GETARG_POINTER(0);
-	if (!has_state(group))
+	if (!has_rows(group))
 		PG_RETURN_NULL();
-	state = state_of(group);
-	PG_RETURN_BYTEA_P(image_of_state(state, group->width == 0 ? hll_state_width(state->bytes) : group->width));
+	PG_RETURN_BYTEA_P(image_of_counter(&group->counter, group->width == 0 ? summary_of(&group->counter).width : group->width));
 }

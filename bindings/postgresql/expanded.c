@@ -15,7 +15,7 @@ kept_image(ExpandedSketch *object)
 	{
 		MemoryContext before = MemoryContextSwitchTo(object->header.eoh_context);
 
-		object->image = image_of_state(&object->state, hll_state_width(object->state.bytes));
+		object->image = image_of_counter(&object->counter, summary_of(&object->counter).width);
 		MemoryContextSwitchTo(before);
 	}
 	return object->image;
@@ -35,16 +35,16 @@ flatten_into(ExpandedObjectHeader *header, void *result, Size allocated_size)
 
 static const ExpandedObjectMethods methods = {flat_size, flatten_into};
 
-/* Makes an object with a copy of a state, in a context of its own below this one, in which a large chunk takes only its own
+/* Makes an object with a copy of a counter, in a context of its own below this one, in which a large chunk takes only its own
  * bytes. */
 static ExpandedSketch *
-object_of_state(MemoryContext parent, const State *state)
+object_of_counter(MemoryContext parent, const hll_counter *counter)
 {
 	MemoryContext context = AllocSetContextCreate(parent, "hyperloglog", ALLOCSET_SMALL_SIZES);
 	ExpandedSketch *object = MemoryContextAllocZero(context, sizeof(ExpandedSketch));
 
 	EOH_init_header(&object->header, &methods, context);
-	object->state = copied_state(context, state->bytes, hll_state_size(state->bytes));
+	make_copy(&object->counter, context, counter);
 	return object;
 }
 
@@ -69,8 +69,10 @@ header_of(Datum value)
 
 	if (object != NULL)
 	{
-		header.lg_k = hll_state_lg_k(object->state.bytes);
-		header.width = hll_state_width(object->state.bytes);
+		hll_state_summary summary = summary_of(&object->counter);
+
+		header.lg_k = summary.lg_k;
+		header.width = summary.width;
 		header.size = 0;
 		return header;
 	}
@@ -90,27 +92,28 @@ context_of_value(FunctionCallInfo fcinfo)
 	return AggCheckCallContext(fcinfo, &context) ? context : CurrentMemoryContext;
 }
 
-/* Returns the value of a state: an object if it has registers, since a further call may need them, and otherwise an image. */
+/* Returns the value of a counter: an object if it has registers, since a further call may need them, and otherwise an image. */
 static Datum
-value_of_state(MemoryContext parent, State *state)
+value_of_counter(MemoryContext parent, const hll_counter *counter)
 {
-	if (hll_state_stage(state->bytes) != HLL_REGISTERS)
-		return PointerGetDatum(image_of_state(state, hll_state_width(state->bytes)));
-	return EOHPGetRWDatum(&object_of_state(parent, state)->header);
+	hll_state_summary summary = summary_of(counter);
+
+	if (summary.stage != HLL_REGISTERS)
+		return PointerGetDatum(image_of_counter(counter, summary.width));
+	return EOHPGetRWDatum(&object_of_counter(parent, counter)->header);
 }
 
 /* Returns the value of a new image, likewise. */
 static Datum
 value_of_image(MemoryContext parent, bytea *image)
 {
-	State		state;
+	hll_counter counter;
 
 	if (hll_image_stage(IMAGE(image)) != HLL_REGISTERS)
 		return PointerGetDatum(image);
-	state = new_state(CurrentMemoryContext, 0);
-	CHECK_FOR_INTERRUPTS();
-	check_status(join_image(&state, 0, IMAGE(image)));
-	return value_of_state(parent, &state);
+	make_counter(&counter, CurrentMemoryContext, 0);
+	check_status(join_image(&counter, IMAGE(image)));
+	return value_of_counter(parent, &counter);
 }
 
 /* Returns the object of a value that may be changed: the value itself if the caller gave it away, or a copy. */
@@ -121,10 +124,10 @@ own_object(MemoryContext parent, Datum value)
 
 	if (VARATT_IS_EXTERNAL_EXPANDED_RW(DatumGetPointer(value)))
 		return object;
-	return object_of_state(parent, &object->state);
+	return object_of_counter(parent, &object->counter);
 }
 
-/* Returns the value of an object whose state has changed. */
+/* Returns the value of an object whose counter has changed. */
 static Datum
 changed_object(ExpandedSketch *object)
 {
@@ -162,25 +165,25 @@ side_in(FunctionCallInfo fcinfo, int argument)
 	return side;
 }
 
-/* Merges a side, the argument of this number (from 0), into a state. */
+/* Merges a side, the argument of this number (from 0), into a counter. */
 static void
-join_side(State *state, uint8 lg_max_k, Side side, size_t number)
+join_side(hll_counter *counter, Side side, size_t number)
 {
 	hll_status	status;
 	uint8		lg_k;
 
 	if (side.object != NULL)
 	{
-		lg_k = hll_state_lg_k(side.object->state.bytes);
-		status = join_state(state, lg_max_k, &side.object->state);
+		lg_k = summary_of(&side.object->counter).lg_k;
+		status = join_counter(counter, &side.object->counter);
 	}
 	else
 	{
 		lg_k = named_lg_k(IMAGE(side.image));
-		status = join_image(state, lg_max_k, IMAGE(side.image));
+		status = join_image(counter, IMAGE(side.image));
 	}
 	if (status == HLL_OTHER_LG_K)
-		refuse_other_lg_k(hll_state_lg_k(state->bytes), lg_k);
+		refuse_other_lg_k(summary_of(counter).lg_k, lg_k);
 	check_argument_status(status, number);
 }
 
@@ -191,16 +194,14 @@ bound_in(FunctionCallInfo fcinfo)
 	return PG_NARGS() > 2 ? checked_lg_k("lg_max_k", PG_GETARG_INT64(2)) : 0;
 }
 
-/* Makes a state of the union of both sides, in the current context. */
-static State
-merged_state(uint8 lg_max_k, Side left, Side right)
+/* Makes a counter of the union of both sides, in the current context. */
+static void
+merge_sides(hll_counter *counter, uint8 lg_max_k, Side left, Side right)
 {
-	State		state = new_state(CurrentMemoryContext, lg_max_k);
-
-	join_side(&state, lg_max_k, left, 0);
+	make_counter(counter, CurrentMemoryContext, lg_max_k);
+	join_side(counter, left, 0);
 	CHECK_FOR_INTERRUPTS();
-	join_side(&state, lg_max_k, right, 1);
-	return state;
+	join_side(counter, right, 1);
 }
 
 /* Returns whether both sides are lists or sets of one lg_k and width, which are also those of their union, there is no bound or
@@ -218,7 +219,7 @@ are_alike(uint8 lg_max_k, Side left, Side right)
 		hll_image_stage(IMAGE(left.image)) != HLL_REGISTERS && hll_image_stage(IMAGE(right.image)) != HLL_REGISTERS;
 }
 
-/* Returns the image of the union of such sides, by the call that merges images. It takes a third of the time of a state. */
+/* Returns the image of the union of such sides, by the call that merges images. It takes a third of the time of a counter. */
 static bytea *
 merged_image(Side left, Side right)
 {
@@ -243,12 +244,12 @@ hll_pg_merge(PG_FUNCTION_ARGS)
 	uint8		lg_max_k = bound_in(fcinfo);
 	Side		left = side_in(fcinfo, 0);
 	Side		right = side_in(fcinfo, 1);
-	State		state;
+	hll_counter counter;
 
 	if (are_alike(lg_max_k, left, right))
 		PG_RETURN_BYTEA_P(merged_image(left, right));
-	state = merged_state(lg_max_k, left, right);
-	PG_RETURN_BYTEA_P(image_of_state(&state, hll_state_width(state.bytes)));
+	merge_sides(&counter, lg_max_k, left, right);
+	PG_RETURN_BYTEA_P(image_of_counter(&counter, summary_of(&counter).width));
 }
 
 PG_FUNCTION_INFO_V1(hll_pg_merge_sketches);
@@ -262,19 +263,20 @@ hll_pg_merge_sketches(PG_FUNCTION_ARGS)
 	Side		right = side_in(fcinfo, 1);
 	MemoryContext parent = context_of_value(fcinfo);
 	ExpandedSketch *object;
-	State		state;
+	hll_counter counter;
 
 	CHECK_FOR_INTERRUPTS();
 	if (are_alike(lg_max_k, left, right))
 		return value_of_image(parent, merged_image(left, right));
 	if (left.object == NULL || left.object == right.object ||
-		(lg_max_k != 0 && lg_max_k < hll_state_lg_k(left.object->state.bytes)))
+		(lg_max_k != 0 && lg_max_k < summary_of(&left.object->counter).lg_k))
 	{
-		state = merged_state(lg_max_k, left, right);
-		return value_of_state(parent, &state);
+		merge_sides(&counter, lg_max_k, left, right);
+		return value_of_counter(parent, &counter);
 	}
 	object = own_object(parent, PG_GETARG_DATUM(0));
-	join_side(&object->state, lg_max_k, right, 1);
+	check_status(hll_counter_bind(&object->counter, lg_max_k));
+	join_side(&object->counter, right, 1);
 	return changed_object(object);
 }
 
@@ -292,7 +294,7 @@ image_with(bytea *image, const uint8 *value, size_t size)
 	return end_output(&out);
 }
 
-/* An object adds the value to its state. An image becomes an object if it has registers, since another value may follow. */
+/* An object adds the value to its counter. An image becomes an object if it has registers, since another value may follow. */
 Datum
 sketch_with(FunctionCallInfo fcinfo, const uint8 *value, size_t size)
 {
@@ -303,7 +305,7 @@ sketch_with(FunctionCallInfo fcinfo, const uint8 *value, size_t size)
 	if (object != NULL)
 	{
 		object = own_object(parent, sketch);
-		add_to_state(&object->state, value, size);
+		add_to_counter(&object->counter, value, size);
 		return changed_object(object);
 	}
 	return value_of_image(parent, image_with(image_in(fcinfo, 0), value, size));

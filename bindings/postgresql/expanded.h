@@ -10,12 +10,12 @@
 
 #include "utils/expandeddatum.h"
 
-/* A state of registers, and its image. */
+/* A counter with registers, and its image. */
 typedef struct ExpandedSketch
 {
 	ExpandedObjectHeader header;
-	State		state;
-	bytea	   *image;			/* NULL if the state has changed since the image was written */
+	hll_counter counter;
+	bytea	   *image;			/* NULL if the counter has changed since the image was written */
 } ExpandedSketch;
 
 /* What a value's header says. */

@@ -19,7 +19,7 @@ image_in(FunctionCallInfo fcinfo, int argument)
 {
 	bytea	   *image = PG_GETARG_BYTEA_PP(argument);
 
-	check_whole(IMAGE(image), NULL, 0);
+	check_whole(IMAGE(image), 0);
 	return image;
 }
 
@@ -28,7 +28,7 @@ numbered_image_in(FunctionCallInfo fcinfo, int argument)
 {
 	bytea	   *image = PG_GETARG_BYTEA_PP(argument);
 
-	check_whole(IMAGE(image), "argument", argument + 1);
+	check_whole(IMAGE(image), argument + 1);
 	return image;
 }
 
@@ -46,6 +46,17 @@ named_width(const uint8 *image, size_t size)
 	uint8		width = hll_image_width(image, size);
 
 	return width == 0 ? 8 : width;
+}
+
+PG_FUNCTION_INFO_V1(hll_pg_version);
+
+/* The version of the library in this module. A session keeps the module that it has loaded. */
+Datum
+hll_pg_version(PG_FUNCTION_ARGS)
+{
+	uint32		number = hll_version();
+
+	PG_RETURN_TEXT_P(cstring_to_text(psprintf("%u.%u.%u", number / 1000000, number / 1000 % 1000, number % 1000)));
 }
 
 PG_FUNCTION_INFO_V1(hll_pg_empty);

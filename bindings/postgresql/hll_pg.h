@@ -58,13 +58,12 @@ extern bytea *end_output(Output *out);
 /* Each function raises an error unless the status is HLL_OK, or the number is in range. */
 extern void check_status(hll_status status);
 extern void check_argument_status(hll_status status, size_t argument);
-extern void check_row_status(hll_status status, int64 row);
 extern uint8 checked_lg_k(const char *name, int64 lg_k);
 extern uint8 checked_width(int64 width);
 
-/* Raises an error if bytes follow an image. `what` and `number` say which image, for example "row" 17, or are NULL and 0. It
+/* Raises an error if bytes follow an image. `argument` is its number, from 1, if a function has several images, or 0. It
  * looks for interrupts: the caller reads the image next. */
-extern void check_whole(const uint8 *image, size_t size, const char *what, int64 number);
+extern void check_whole(const uint8 *image, size_t size, int argument);
 
 /* Returns the image that is an argument, counted from 0, and the argument whose number an error will name. */
 extern bytea *image_in(FunctionCallInfo fcinfo, int argument);

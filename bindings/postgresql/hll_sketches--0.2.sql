@@ -104,6 +104,10 @@ COMMENT ON FUNCTION hll_is_image(pg_catalog.bytea) IS 'whether bytes are an HLL 
 CREATE FUNCTION hll_first_image(images pg_catalog.bytea) RETURNS pg_catalog.bytea
     AS 'MODULE_PATHNAME', 'hll_pg_first_image' LANGUAGE C IMMUTABLE STRICT PARALLEL SAFE COST 50;
 COMMENT ON FUNCTION hll_first_image(pg_catalog.bytea) IS 'the image with which bytes begin, without what follows it';
+-- Stable, as an update of the module changes it.
+CREATE FUNCTION hll_version() RETURNS pg_catalog.text
+    AS 'MODULE_PATHNAME', 'hll_pg_version' LANGUAGE C STABLE STRICT PARALLEL SAFE;
+COMMENT ON FUNCTION hll_version() IS 'the version of the library that this session has loaded';
 
 CREATE FUNCTION hyperloglog_empty(lg_k pg_catalog.int8 DEFAULT 12, width pg_catalog.int8 DEFAULT 8) RETURNS hyperloglog
     AS 'MODULE_PATHNAME', 'hll_pg_empty' LANGUAGE C IMMUTABLE STRICT PARALLEL SAFE;

@@ -70,7 +70,7 @@ check_image(bytea *bytes, int32 modifier)
 		status = HLL_OK;
 	check_status(status);
 	check_header(header_of(PointerGetDatum(bytes)), modifier);
-	check_whole(IMAGE(bytes), NULL, 0);
+	check_whole(IMAGE(bytes), 0);
 	check_status(hll_image_check(IMAGE(bytes)));
 }
 

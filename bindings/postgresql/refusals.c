@@ -8,6 +8,9 @@
 
 #include "miscadmin.h"
 
+/* How to find the row of a rejected image. The number of the row wouldn't say it: it depends on the plan, and on the worker. */
+#define FINDING "SELECT .. WHERE NOT hll_is_image(image) finds such rows"
+
 /* Raises an error. `place` says which image was rejected, if there are several. */
 static void
 refuse(hll_status status, const char *place)
@@ -22,7 +25,8 @@ refuse(hll_status status, const char *place)
 	ereport(ERROR,
 			(errcode(ERRCODE_INVALID_BINARY_REPRESENTATION),
 			 errmsg("invalid HLL image%s: %s", place, hll_reason(status)),
-			 errdetail("%s", hll_message(status))));
+			 errdetail("%s", hll_message(status)),
+			 errhint(FINDING ", and hll_fault(image) says why.")));
 }
 
 void
@@ -40,14 +44,6 @@ check_argument_status(hll_status status, size_t argument)
 		refuse(status, psprintf(" in argument %d", (int) argument + 1));
 }
 
-/* In an aggregate: the number of the row, from 1; otherwise 0. */
-void
-check_row_status(hll_status status, int64 row)
-{
-	if (status != HLL_OK)
-		refuse(status, row == 0 ? "" : psprintf(" in row " INT64_FORMAT, row));
-}
-
 bool
 is_empty_table(const uint8 *image, size_t size)
 {
@@ -59,7 +55,7 @@ is_empty_table(const uint8 *image, size_t size)
 
 /* An image without its last byte is truncated, as its header shows. If it isn't, its last byte is not part of the image. */
 void
-check_whole(const uint8 *image, size_t size, const char *what, int64 number)
+check_whole(const uint8 *image, size_t size, int argument)
 {
 	size_t		own;
 	hll_status	status;
@@ -76,9 +72,10 @@ check_whole(const uint8 *image, size_t size, const char *what, int64 number)
 	ereport(ERROR,
 			(errcode(ERRCODE_INVALID_BINARY_REPRESENTATION),
 			 errmsg_plural("invalid HLL image%s: %zu byte follows it", "invalid HLL image%s: %zu bytes follow it", size - own,
-						   what == NULL ? "" : psprintf(" in %s " INT64_FORMAT, what, number), size - own),
+						   argument == 0 ? "" : psprintf(" in argument %d", argument), size - own),
 			 errdetail("The image takes %zu bytes of %zu.", own, size),
-			 errhint("hll_merge merges two images; || puts one bytea after another. hll_first_image cuts off what follows.")));
+			 errhint("hll_merge merges two images; || puts one bytea after another. hll_first_image cuts off what follows. "
+					 FINDING ".")));
 }
 
 uint8

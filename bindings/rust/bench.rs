@@ -54,7 +54,7 @@ fn filled(hll_type: HllType, values: std::ops::Range<u64>) -> HllSketch {
 
 fn time_new_sketches() {
     time("new", 10_000, || (0..10_000).for_each(|_| keep(new(HllType::Hll8))));
-    for n in [1, 7, 20, 100, 300, 100_000] {
+    for n in [1, 7, 20, 100, 300, 1000, 100_000] {
         let sketches = (100_000 / n).max(1);
         time(&format!("update, a new sketch of {n} values"), n * sketches, || {
             (0..sketches).for_each(|i| keep(filled(HllType::Hll8, (i * n) as u64..(i * n + n) as u64)))

@@ -16,7 +16,7 @@ use std::process::{self, Command};
 
 type Outcome<T = ()> = Result<T, Box<dyn Error>>;
 
-const SOURCES: [&str; 4] = ["estimate", "optional", "state", "heap"];
+const SOURCES: [&str; 5] = ["estimate", "optional", "state", "counter", "heap"];
 
 fn main() {
     for name in ["HLL_SYSTEM", "PKG_CONFIG", "PKG_CONFIG_PATH", "PKG_CONFIG_LIBDIR"] {

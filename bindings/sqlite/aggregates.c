@@ -50,7 +50,6 @@ static Group *next_row(sqlite3_context *context, int n, sqlite3_value **values, 
     if (group->has_failed)
         return NULL;
     group->has_failed = !options_in(context, n, values, options, group);
-    group->rows++;
     return group->has_failed ? NULL : group;
 }
 
@@ -101,16 +100,15 @@ static void step_images(sqlite3_context *context, int n, sqlite3_value **values)
 
     if (group == NULL || sqlite3_value_type(values[0]) == SQLITE_NULL)
         return;
-    group->has_failed = !image_in(context, values[0], "row", group->rows, &image);
+    group->has_failed = !image_in(context, values[0], 0, &image);
     if (group->has_failed)
         return;
     status = add_image(group, image);
     group->has_failed = status != HLL_OK;
     if (status == HLL_OTHER_LG_K)
-        refuse_other_lg_k(context, "row", group->rows, hll_state_lg_k(group->state), named_lg_k(image),
-                          "hll_image_union_agg(image");
+        refuse_other_lg_k(context, summary_of(group).lg_k, named_lg_k(image), "hll_image_union_agg(image");
     else if (group->has_failed)
-        refuse_number(context, status, "row", group->rows);
+        refuse(context, status, "");
 }
 
 static void step_values(sqlite3_context *context, int n, sqlite3_value **values)
@@ -141,7 +139,7 @@ static void finish(sqlite3_context *context)
 
     if (group == NULL)
         return;
-    if (!group->has_failed && group->state != NULL) {
+    if (!group->has_failed && has_rows(group)) {
         status = write_group(group, &out);
         if (status == HLL_OK)
             answer_image(context, &out);

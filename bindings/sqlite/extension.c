@@ -20,10 +20,13 @@ static void answer_error(sqlite3_context *context, char *text)
     sqlite3_free(text);
 }
 
+/* How to find the row of a rejected image, which has no number in a query. */
+#define FINDING "SELECT .. WHERE NOT hll_is_image(image) finds such rows"
+
 void refuse(sqlite3_context *context, hll_status status, const char *place)
 {
     bool is_image = HLL_TRUNCATED <= status && status <= HLL_REGISTER;
-    const char *format = is_image ? "invalid HLL image%s: %s" : "unexpected status of the HLL library%s: %s";
+    const char *format = is_image ? "invalid HLL image%s: %s (" FINDING ")" : "unexpected status of the HLL library%s: %s";
 
     if (status == HLL_MEMORY)
         sqlite3_result_error_nomem(context);
@@ -31,25 +34,25 @@ void refuse(sqlite3_context *context, hll_status status, const char *place)
         answer_error(context, sqlite3_mprintf(format, place, hll_reason(status)));
 }
 
-/* The error of an image with a number: "argument" 2, "row" 17. */
-void refuse_number(sqlite3_context *context, hll_status status, const char *what, sqlite3_int64 number)
+/* The error of the image that is this argument, from 1. */
+void refuse_numbered(sqlite3_context *context, hll_status status, int argument)
 {
     char place[64];
 
-    sqlite3_snprintf(sizeof place, place, " in %s %lld", what, number);
+    sqlite3_snprintf(sizeof place, place, " in argument %d", argument);
     refuse(context, status, place);
 }
 
-/* The error of bytes after an image. */
-static void refuse_more(sqlite3_context *context, const char *what, sqlite3_int64 number, size_t more)
+/* The error of bytes after an image, which is this argument, from 1, or 0 if there is one image only. */
+static void refuse_more(sqlite3_context *context, int argument, size_t more)
 {
     char place[64] = "";
 
-    if (what != NULL)
-        sqlite3_snprintf(sizeof place, place, " in %s %lld", what, number);
+    if (argument != 0)
+        sqlite3_snprintf(sizeof place, place, " in argument %d", argument);
     answer_error(context, sqlite3_mprintf("invalid HLL image%s: %llu byte%s it (hll_merge merges images, || puts one after "
-                                          "another; hll_first_image cuts off what follows)", place, (sqlite3_uint64)more,
-                                          more == 1 ? " follows" : "s follow"));
+                                          "another; hll_first_image cuts off what follows; " FINDING ")", place,
+                                          (sqlite3_uint64)more, more == 1 ? " follows" : "s follow"));
 }
 
 /* The error of an argument that is not such a number. The format has its name and optionally the number. */
@@ -58,12 +61,15 @@ void refuse_argument(sqlite3_context *context, const char *format, const char *n
     answer_error(context, sqlite3_mprintf(format, name, number));
 }
 
-void refuse_other_lg_k(sqlite3_context *context, const char *what, sqlite3_int64 number, int lg_k, int other, const char *call)
+void refuse_other_lg_k(sqlite3_context *context, int lg_k, int other, const char *call)
 {
     int bound = lg_k < other ? lg_k : other;
 
-    answer_error(context, sqlite3_mprintf("sketches of lg_k %d and %d (%s %lld) can't be merged without a bound: %s, %d) merges "
-                                          "them at lg_k %d", lg_k, other, what, number, call, bound, bound));
+    answer_error(context,
+                 sqlite3_mprintf("sketches of lg_k %d and %d can't be merged without a bound: %s, %d) merges them at "
+                                 "lg_k %d (SELECT json_extract(hll_info(image), '$.lg_k'), count(*) .. GROUP BY 1 "
+                                 "counts the sketches of each lg_k)",
+                                 lg_k, other, call, bound, bound));
 }
 
 /* ---- arguments */
@@ -104,13 +110,13 @@ static hll_status whole_status(hll_bytes image, size_t *own)
     return status == HLL_MEMORY ? status : HLL_OK;
 }
 
-bool image_in(sqlite3_context *context, sqlite3_value *value, const char *what, sqlite3_int64 number, hll_bytes *image)
+bool image_in(sqlite3_context *context, sqlite3_value *value, int argument, hll_bytes *image)
 {
     hll_status status;
     size_t own;
 
     if (sqlite3_value_type(value) != SQLITE_BLOB) {
-        sqlite3_result_error(context, "an HLL image must be a blob", -1);
+        sqlite3_result_error(context, "an HLL image must be a blob (" FINDING ")", -1);
         return false;
     }
     if (!bytes_in(context, value, image))
@@ -119,7 +125,7 @@ bool image_in(sqlite3_context *context, sqlite3_value *value, const char *what, 
     if (status != HLL_OK)
         refuse(context, status, "");
     else if (own < image->len)
-        refuse_more(context, what, number, image->len - own);
+        refuse_more(context, argument, image->len - own);
     return status == HLL_OK && own == image->len;
 }
 

@@ -76,7 +76,7 @@ static void fold(sqlite3_context *context, int n, sqlite3_value **values)
     hll_status status;
 
     (void)n;
-    if (!image_in(context, values[0], NULL, 0, &call.image) || !lg_k_in(context, values[1], "lg_k", &call.lg_k))
+    if (!image_in(context, values[0], 0, &call.image) || !lg_k_in(context, values[1], "lg_k", &call.lg_k))
         return;
     status = write_image(write_fold, &call, changed_room(call.image), &out);
     if (status == HLL_OK)
@@ -99,7 +99,7 @@ static void convert(sqlite3_context *context, int n, sqlite3_value **values)
     Call call;
 
     (void)n;
-    if (image_in(context, values[0], NULL, 0, &call.image) && width_in(context, values[1], &call.width))
+    if (image_in(context, values[0], 0, &call.image) && width_in(context, values[1], &call.width))
         answer_written(context, write_converted, &call, changed_room(call.image));
 }
 
@@ -115,7 +115,7 @@ static void set_estimator_fields(sqlite3_context *context, int n, sqlite3_value 
     Call call;
 
     (void)n;
-    if (image_in(context, values[0], NULL, 0, &call.image))
+    if (image_in(context, values[0], 0, &call.image))
         answer_written(context, write_with_fields, &call, MIN(call.image.len + 64, HLL_IMAGE_MAX(21)));
 }
 
@@ -123,8 +123,8 @@ static void set_estimator_fields(sqlite3_context *context, int n, sqlite3_value 
 
 static bool two_images_in(sqlite3_context *context, sqlite3_value **values, Call *call)
 {
-    return image_in(context, values[0], "argument", 1, &call->image) &&
-           image_in(context, values[1], "argument", 2, &call->other);
+    return image_in(context, values[0], 1, &call->image) &&
+           image_in(context, values[1], 2, &call->other);
 }
 
 /* Merges both images into a new state. `failed` is the number of the rejected image, from 0. */
@@ -151,9 +151,9 @@ static void merge(sqlite3_context *context, int n, sqlite3_value **values)
         return;
     status = join_both(&state, &call);
     if (status == HLL_OTHER_LG_K)
-        refuse_other_lg_k(context, "argument", 2, hll_state_lg_k(state.state), named_lg_k(call.other), "hll_merge(a, b");
+        refuse_other_lg_k(context, summary_of(&state).lg_k, named_lg_k(call.other), "hll_merge(a, b");
     else if (status != HLL_OK)
-        refuse_number(context, status, "argument", (sqlite3_int64)call.failed + 1);
+        refuse_numbered(context, status, (int)call.failed + 1);
     else if ((status = write_group(&state, &out)) == HLL_OK)
         answer_image(context, &out);
     else
@@ -174,7 +174,7 @@ static void agree(sqlite3_context *context, int n, sqlite3_value **values)
     if (status == HLL_OK)
         sqlite3_result_int(context, same);
     else
-        refuse_number(context, status, "argument", (sqlite3_int64)call.failed + 1);
+        refuse_numbered(context, status, (int)call.failed + 1);
 }
 
 /* ---- what an image says */
@@ -261,7 +261,7 @@ static void info(sqlite3_context *context, int n, sqlite3_value **values)
     hll_status status;
 
     (void)n;
-    if (!image_in(context, values[0], NULL, 0, &image))
+    if (!image_in(context, values[0], 0, &image))
         return;
     status = hll_image_info(IMAGE(image), &told, sizeof told);
     if (status == HLL_OK)
@@ -272,6 +272,16 @@ static void info(sqlite3_context *context, int n, sqlite3_value **values)
         refuse(context, status, "");
 }
 
+/* The version of the library in this extension. */
+static void version(sqlite3_context *context, int n, sqlite3_value **values)
+{
+    uint32_t number = hll_version();
+
+    (void)n;
+    (void)values;
+    answer_text(context, sqlite3_mprintf("%u.%u.%u", number / 1000000, number / 1000 % 1000, number % 1000));
+}
+
 /* ---- estimates */
 
 static bool estimation_of(sqlite3_context *context, sqlite3_value *value, hll_estimation *found)
@@ -279,7 +289,7 @@ static bool estimation_of(sqlite3_context *context, sqlite3_value *value, hll_es
     hll_bytes image;
     hll_status status;
 
-    if (!image_in(context, value, NULL, 0, &image))
+    if (!image_in(context, value, 0, &image))
         return false;
     status = hll_estimate(IMAGE(image), found);
     if (status != HLL_OK)
@@ -304,7 +314,7 @@ static void hip_estimate(sqlite3_context *context, int n, sqlite3_value **values
     hll_status status;
 
     (void)n;
-    if (!image_in(context, values[0], NULL, 0, &image))
+    if (!image_in(context, values[0], 0, &image))
         return;
     status = hll_hip_estimate(IMAGE(image), &found);
     if (status == HLL_OK)
@@ -374,6 +384,7 @@ static const Entry entries[] = {
     {"hll_hip_estimate", 1, hip_estimate},
     {"hll_estimate_bounds", 1, estimate_bounds},
     {"hll_estimate_bounds", 2, estimate_bounds},
+    {"hll_version", 0, version},
 };
 
 /* Calls the function of an entry. If an argument is NULL, the result is NULL. */
@@ -388,13 +399,19 @@ static void call_strict(sqlite3_context *context, int n, sqlite3_value **values)
     entry->function(context, n, values);
 }
 
+/* An index or a generated column can't have the version, as an update changes it. */
+static int flags_of(const Entry *entry)
+{
+    return entry->function == version ? HLL_FLAGS & ~SQLITE_DETERMINISTIC : HLL_FLAGS;
+}
+
 int register_functions(sqlite3 *db)
 {
     int code = SQLITE_OK;
     size_t i;
 
     for (i = 0; i < sizeof entries / sizeof *entries && code == SQLITE_OK; i++)
-        code = sqlite3_create_function_v2(db, entries[i].name, entries[i].n, HLL_FLAGS, (void *)&entries[i], call_strict, NULL,
-                                          NULL, NULL);
+        code = sqlite3_create_function_v2(db, entries[i].name, entries[i].n, flags_of(&entries[i]), (void *)&entries[i], call_strict,
+                                          NULL, NULL, NULL);
     return code;
 }

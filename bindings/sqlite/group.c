@@ -3,101 +3,70 @@
 
 #define MIN(a, b) ((a) < (b) ? (a) : (b))
 
-/* A state of up to seven coupons needs no more. Most groups stay that small. */
-#define FIRST_ROOM (HLL_STATE_NEW + 7 * 4)
-
-/* ---- memory */
-
-/* Returns the bytes of a state that has registers. */
-static size_t registers_size(const Group *group)
+/* The allocator of counters: that of SQLite. */
+static void *resize(void *context, void *memory, size_t size)
 {
-    return HLL_STATE_NEW + ((size_t)1 << hll_state_lg_k(group->state));
+    (void)context;
+    if (size == 0) {
+        sqlite3_free(memory);
+        return NULL;
+    }
+    return sqlite3_realloc64(memory, size);
 }
 
-/* Resizes the state, which may move it. If that fails, the state is unchanged. */
-static hll_status resize(Group *group, size_t room)
+bool has_rows(const Group *group)
 {
-    uint8_t *state = sqlite3_realloc64(group->state, room);
-
-    if (state == NULL)
-        return HLL_MEMORY;
-    group->state = state;
-    group->room = room;
-    return HLL_OK;
+    return group->counter.resize != NULL;
 }
 
-/* Makes the state. Without an lg_k it gets that of what is merged into it. */
-static hll_status begin(Group *group)
+/* Returns the counter, which the first value or image makes. Without an lg_k that is open: what is merged decides it. */
+static hll_counter *counter_of(Group *group)
 {
-    hll_status status = resize(group, FIRST_ROOM);
-
-    return status == HLL_OK ? hll_state_new(group->lg_k == 0 ? 4 : group->lg_k, group->state, group->room) : status;
+    if (!has_rows(group))
+        (void)hll_counter_init(&group->counter, group->lg_k, resize, NULL);
+    return &group->counter;
 }
 
-/* Returns whether a state has registers, and room that only its coupons needed. */
-static inline bool is_too_large(const Group *group)
+hll_state_summary summary_of(const Group *group)
 {
-    return group->room > registers_size(group) && hll_state_stage(group->state) == HLL_REGISTERS;
-}
+    hll_state_summary summary = {0};
 
-/* Frees that room. (If this fails, the state keeps it.) */
-static void trim(Group *group)
-{
-    (void)resize(group, registers_size(group));
+    (void)hll_counter_info(&group->counter, &summary, sizeof summary);
+    return summary;
 }
 
 /* ---- rows */
 
 hll_status add_value(Group *group, hll_bytes value)
 {
-    hll_status status = group->state != NULL ? HLL_OK : begin(group);
-    size_t size;
-
-    while (status == HLL_OK) {
-        status = hll_state_add_value(group->state, group->room, &size, value.bytes, value.len);
-        if (status != HLL_BUFFER)
-            break;
-        status = resize(group, size);
-    }
-    if (status == HLL_OK && is_too_large(group))
-        trim(group);
-    return status;
+    return hll_counter_add(counter_of(group), value.bytes, value.len);
 }
 
 hll_status add_image(Group *group, hll_bytes image)
 {
-    hll_status status = group->state != NULL ? HLL_OK : begin(group);
-    size_t size;
-
-    while (status == HLL_OK) {
-        status = hll_state_join(group->lg_k, group->state, group->room, &size, image.bytes, image.len);
-        if (status != HLL_BUFFER)
-            break;
-        status = resize(group, size);
-    }
-    if (status == HLL_OK && is_too_large(group))
-        trim(group);
-    return status;
+    return hll_counter_join(counter_of(group), image.bytes, image.len);
 }
 
 /* ---- the result */
 
-static hll_status write_state(void *given, Output *out)
+static hll_status write_counter(void *given, Output *out)
 {
     const Group *group = given;
+    uint8_t width = group->width == 0 ? summary_of(group).width : group->width;
 
-    uint8_t width = group->width == 0 ? hll_state_width(group->state) : group->width;
-
-    return hll_state_image(group->state, group->room, width, OUTPUT(out));
+    return hll_counter_image(&group->counter, width, OUTPUT(out));
 }
 
 hll_status write_group(Group *group, Output *out)
 {
+    hll_state_summary summary = summary_of(group);
+
     /* (4-bit registers with many exceptions need more.) */
-    return write_image(write_state, group, MIN(hll_state_size(group->state), registers_size(group)), out);
+    return write_image(write_counter, group, MIN(summary.size, HLL_IMAGE_ROOM(summary.lg_k, 8)), out);
 }
 
 void free_group(Group *group)
 {
-    sqlite3_free(group->state);
+    if (has_rows(group))
+        hll_counter_free(&group->counter);
 }

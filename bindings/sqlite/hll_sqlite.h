@@ -17,9 +17,8 @@ SQLITE_EXTENSION_INIT3
 /* ---- arguments: each function returns false if it has returned an error to SQLite */
 
 bool bytes_in(sqlite3_context *context, sqlite3_value *value, hll_bytes *bytes);
-/* Reads an image without bytes after it. If there are several images, an error says which: "argument" 2, "row" 17; otherwise
- * NULL and 0. */
-bool image_in(sqlite3_context *context, sqlite3_value *value, const char *what, sqlite3_int64 number, hll_bytes *image);
+/* Reads an image without bytes after it. `argument` is its number in errors, from 1, if a function has several images, or 0. */
+bool image_in(sqlite3_context *context, sqlite3_value *value, int argument, hll_bytes *image);
 
 /* Returns whether bytes are an empty list with its eight buckets, as other libraries write it in updatable form. No reader
  * looks at the buckets. */
@@ -33,12 +32,12 @@ bool deviations_in(sqlite3_context *context, sqlite3_value *value, int *deviatio
 
 /* Returns the error of a status that is not HLL_OK. `place` says which image was rejected, if there are several. */
 void refuse(sqlite3_context *context, hll_status status, const char *place);
-void refuse_number(sqlite3_context *context, hll_status status, const char *what, sqlite3_int64 number);
+void refuse_numbered(sqlite3_context *context, hll_status status, int argument);
 void refuse_argument(sqlite3_context *context, const char *format, const char *name, sqlite3_int64 number);
 
-/* Returns the error of sketches of different lg_k that are merged without a bound. The second sketch is that of this
- * argument or row. `call` is the start of a call that merges them. */
-void refuse_other_lg_k(sqlite3_context *context, const char *what, sqlite3_int64 number, int lg_k, int other, const char *call);
+/* Returns the error of sketches of different lg_k that are merged without a bound. `call` is the start of a call that merges
+ * them. */
+void refuse_other_lg_k(sqlite3_context *context, int lg_k, int other, const char *call);
 
 /* Returns the lg_k in the header of an image. If the bytes are not an image, it is any number in range; reading them reports
  * the error. */
@@ -70,7 +69,7 @@ void answer_image(sqlite3_context *context, const Output *out);
 int register_functions(sqlite3 *db);
 int register_aggregates(sqlite3 *db);
 
-/* All functions are deterministic and innocuous: a schema from an untrusted source may call them. */
+/* All functions but hll_version are deterministic, and all are innocuous: a schema from an untrusted source may call them. */
 #define HLL_FLAGS (SQLITE_UTF8 | SQLITE_DETERMINISTIC | SQLITE_INNOCUOUS)
 
 #endif

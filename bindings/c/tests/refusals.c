@@ -128,6 +128,7 @@ static hll_status call_join(const uint8_t *image, size_t len, uint8_t *out, size
 {
     static uint8_t state[HLL_STATE_MOST(12)], before[sizeof state];
     size_t unused = 77;
+    hll_state_summary summary;
     hll_status status;
     memset(state, 0, sizeof state);
     if (hll_state_new(12, state, sizeof state) != HLL_OK)
@@ -136,7 +137,9 @@ static hll_status call_join(const uint8_t *image, size_t len, uint8_t *out, size
     status = hll_state_join(0, state, sizeof state, &unused, image, len);
     if (status != HLL_OK)
         return unused == 77 && memcmp(state, before, sizeof state) == 0 ? status : 200;
-    return hll_state_image(state, sizeof state, hll_state_width(state), out, room, size);
+    if (hll_state_info(state, sizeof state, &summary, sizeof summary) != HLL_OK)
+        return 200;
+    return hll_state_image(state, sizeof state, summary.width, out, room, size);
 }
 
 /* Sixty new values, which make a set of a list, and registers of the largest set. */

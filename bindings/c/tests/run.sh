@@ -64,7 +64,7 @@ test_header() {
 
 # The calls that the header declares, and the names that a library shows.
 declared() {
-    sed -n 's/^\(hll_status\|uint32_t\) \(hll_[a-z_0-9]*\)(.*/\2/p' hll.h | sort
+    sed -n 's/^\(hll_status\|uint32_t\|void\) \(hll_[a-z_0-9]*\)(.*/\2/p' hll.h | sort
 }
 
 shown() {
@@ -82,7 +82,7 @@ test_expected() {
 
 test_names() {
     declared >"$tests/declared"
-    expect 'forty-two calls are declared' test "$(wc -l <"$tests/declared")" -eq 42
+    expect 'sixty calls are declared' test "$(wc -l <"$tests/declared")" -eq 60
     shown -D --defined-only "$build/libhll.so" >"$tests/shown"
     expect 'names of the shared library' diff "$tests/declared" "$tests/shown"
     shown -g --defined-only "$build/libhll.a" >"$tests/shown"
@@ -111,9 +111,10 @@ compile() {
 }
 
 test_calls() {
-    for name in calls buffers estimates rows registers states; do
+    for name in calls buffers estimates rows registers states counters; do
         compile "$name" "$build/libhll.a"
     done
+    compile counter_threads "$build/libhll.a" -pthread
     compile threads "$build/libhll.a" -pthread
     compile refusals "$build/libhll.a" "$wraps"
     compile calls-shared -L"$build" -lhll -Wl,-rpath,"$build"
@@ -126,6 +127,8 @@ test_calls() {
     run rows "$tests/rows" $rows
     run registers "$tests/registers" $sequences
     run states "$tests/states" $walks
+    run counters "$tests/counters" 300
+    run 'threads that read a counter' "$tests/counter_threads"
 }
 
 test_memory() {
@@ -143,6 +146,7 @@ test_memory() {
     run 'rows in valgrind' $clean "$tests/rows" $rows
     run 'registers in valgrind' $clean "$tests/registers" 20 small
     run 'states in valgrind' $clean "$tests/states" 40 small
+    run 'counters in valgrind' $clean "$tests/counters" 3
 }
 
 # The tests and the parts in C, with checks of gcc for each access and each sum.
@@ -152,8 +156,8 @@ test_sanitized() {
         skip 'calls, sanitized' "the compiler's library for that is not here"
         return
     fi
-    for name in calls buffers estimates rows threads registers states; do
-        compile "$name-sanitized" $flags estimate.c optional.c state.c heap.c "$build/proved.o" -pthread
+    for name in calls buffers estimates rows threads registers states counters; do
+        compile "$name-sanitized" $flags estimate.c optional.c state.c counter.c heap.c "$build/proved.o" -pthread
     done
     # What leaks is seen by valgrind and by the test of refusals; here it takes rights that not each machine gives.
     ASAN_OPTIONS=detect_leaks=0
@@ -165,6 +169,19 @@ test_sanitized() {
     run 'threads, sanitized' "$tests/threads-sanitized"
     run 'registers, sanitized' "$tests/registers-sanitized" 300
     run 'states, sanitized' "$tests/states-sanitized" 300
+    run 'counters, sanitized' "$tests/counters-sanitized" 100
+    test_races
+}
+
+# Threads that read one counter, with gcc's check for races.
+test_races() {
+    flags='-fsanitize=thread'
+    if ! echo 'int main(void) { return 0; }' | $CC $flags -x c -o "$tests/probe" - 2>/dev/null || ! "$tests/probe"; then
+        skip 'threads that read a counter, without races' "the compiler's library for that is not here"
+        return
+    fi
+    compile counter_threads-races $flags estimate.c optional.c state.c counter.c heap.c "$build/proved.o" -pthread
+    run 'threads that read a counter, without races' "$tests/counter_threads-races"
 }
 
 # ---- the example, and an installed library

@@ -33,11 +33,19 @@ static void take_image(pair *p, bytes image)
     p->image = image;
 }
 
+/* What the state says. */
+static hll_state_summary summary_of(const pair *p)
+{
+    hll_state_summary summary;
+    need(hll_state_info(p->state, p->room, &summary, sizeof summary) == HLL_OK, "a state says what it is");
+    return summary;
+}
+
 /* Moves the state to so many bytes, where no byte beyond those that it takes is known. */
 static void move_to(pair *p, size_t room)
 {
     uint8_t *moved = malloc(room);
-    size_t size = hll_state_size(p->state);
+    size_t size = summary_of(p).size;
     need(moved != NULL, "memory for a test");
     CHECK(size <= room && size <= p->room, "%zu of %zu, to %zu", size, p->room, room);
     memset(moved, 0xa5, room);
@@ -246,6 +254,7 @@ static void walk_of_joins(uint64_t *random, uint8_t most_lg_k)
     for (step = 0; step < steps; step++) {
         uint64_t word = random_word(random);
         joinable other = some_joinable(random, most_lg_k);
+        hll_state_summary summary;
         uint8_t lg_k = p.lg_k, width = hll_image_width(other.image.at, other.image.len);
         int joins;
         if (word % 4 == 0)
@@ -254,8 +263,10 @@ static void walk_of_joins(uint64_t *random, uint8_t most_lg_k)
         widths = widths_after(widths, 1u << (width / 2 - 2), is_empty(p.image), is_empty(other.image) || !joins);
         join(&p, bounded ? lg_k + (unsigned)(word >> 20) % (22u - lg_k) : 0, &other);
         width = widths == 1 ? 4 : widths == 2 ? 6 : 8;
-        CHECK(hll_state_width(p.state) == width, "width %d of %u", hll_state_width(p.state), widths);
-        CHECK(hll_state_lg_k(p.state) == p.lg_k, "lg_k %d: %d", p.lg_k, hll_state_lg_k(p.state));
+        summary = summary_of(&p);
+        CHECK(summary.width == width, "width %d of %u", summary.width, widths);
+        CHECK(summary.lg_k == p.lg_k, "lg_k %d: %d", p.lg_k, summary.lg_k);
+        CHECK(summary.is_empty == is_empty(p.image) && !summary.is_open, "lg_k %d: empty %d", p.lg_k, summary.is_empty);
         if (other.state != NULL) {
             pair q = {other.state, other.room, other.image, hll_image_lg_k(other.image.at, other.image.len)};
             CHECK(gives(&q, 8), "lg_k %d: a joined state changed", q.lg_k);
@@ -265,6 +276,60 @@ static void walk_of_joins(uint64_t *random, uint8_t most_lg_k)
         CHECK(gives(&p, (uint8_t)(4 + 2 * (word % 3))), "lg_k %d, step %d", p.lg_k, step);
     }
     CHECK(gives(&p, 4) && gives(&p, 6) && gives(&p, 8) && estimates_alike(&p), "lg_k %d", p.lg_k);
+    free_pair(&p);
+}
+
+/* ---- an open lg_k ---- */
+
+/* No call adds a value while the lg_k is open, and none changes a byte then. */
+static void refuses_values(pair *p)
+{
+    values v = some_values(1, 3, 3);
+    bytes before = with_room(p->room);
+    size_t size = 77;
+    int by;
+    memcpy(before.at, p->state, p->room);
+    for (by = 0; by < 3; by++)
+        CHECK(call_state(p, &v, by, &size) == HLL_ARGUMENT, "call %d added to a state whose lg_k is open", by);
+    CHECK(hll_state_add(p->state, p->room, &size, NULL, 0, NULL, 0) == HLL_ARGUMENT, "no values were added to an open state");
+    CHECK(gives(p, 8) && estimates_alike(p), "lg_k %d", p->lg_k);
+    CHECK(size == 77 && memcmp(before.at, p->state, p->room) == 0, "an open state changed");
+    free(before.at);
+    free_values(&v);
+}
+
+/* Makes a state whose lg_k is open, which a bound decides, the new one of that lg_k. */
+static void expect_decided(pair *p, unsigned lg_max_k)
+{
+    bytes image = with_room(HLL_IMAGE_MAX(lg_max_k));
+    need(hll_image_new(lg_max_k, 8, image.at, image.len, &image.len) == HLL_OK, "an empty image");
+    take_image(p, image);
+    p->lg_k = (uint8_t)lg_max_k;
+}
+
+/* Random joins to a state whose lg_k is open, until one decides it and after that. */
+static void walk_of_open_states(uint64_t *random, uint8_t most_lg_k)
+{
+    pair p = new_pair(4);
+    int steps = 1 + (int)(random_word(random) % 8), is_open = 1, step;
+    need(hll_state_new(0, p.state, p.room) == HLL_OK, "an open state");
+    for (step = 0; step < steps; step++) {
+        uint64_t word = random_word(random);
+        joinable other = some_joinable(random, most_lg_k);
+        unsigned least = is_open ? 4 : p.lg_k, lg_max_k = word % 4 == 0 ? least + (unsigned)(word >> 8) % (22 - least) : 0;
+        if (is_open)
+            refuses_values(&p);
+        if (is_open && lg_max_k != 0)
+            expect_decided(&p, lg_max_k);
+        is_open = is_open && lg_max_k == 0 && is_empty(other.image);
+        join(&p, lg_max_k, &other);
+        CHECK(summary_of(&p).is_open == is_open && summary_of(&p).lg_k == p.lg_k, "lg_k %d, step %d", p.lg_k, step);
+        if ((word >> 16) % 2 == 0)
+            move_to(&p, summary_of(&p).size + (word >> 24) % 5);
+        CHECK(gives(&p, (uint8_t)(4 + 2 * ((word >> 32) % 3))) && estimates_alike(&p), "lg_k %d, step %d", p.lg_k, step);
+        free(other.state);
+        free(other.image.at);
+    }
     free_pair(&p);
 }
 
@@ -280,15 +345,15 @@ static void walk(uint64_t *random, uint8_t most_lg_k)
         uint64_t word = random_word(random);
         add(&p, word >> 32, 1 + (word >> 8) % most, (word >> 16) % (2 * most), (int)(word % 3));
         if ((word >> 2) % 8 == 0)
-            move_to(&p, hll_state_size(p.state) + (word >> 5) % 5);
+            move_to(&p, summary_of(&p).size + (word >> 5) % 5);
         if ((word >> 24) % 16 == 0)
             CHECK(gives(&p, (uint8_t)(4 + 2 * (word % 3))), "lg_k %d, step %d", p.lg_k, step);
         if ((word >> 24) % 16 == 1)
             CHECK(estimates_alike(&p), "lg_k %d, step %d", p.lg_k, step);
     }
     CHECK(gives(&p, 4) && gives(&p, 6) && gives(&p, 8) && estimates_alike(&p), "lg_k %d", p.lg_k);
-    CHECK(hll_state_lg_k(p.state) == p.lg_k, "lg_k %d: %d", p.lg_k, hll_state_lg_k(p.state));
-    CHECK((hll_state_stage(p.state) == HLL_REGISTERS) == (p.image.at[7] % 4 == HLL_REGISTERS), "lg_k %d", p.lg_k);
+    CHECK(summary_of(&p).lg_k == p.lg_k, "lg_k %d: %d", p.lg_k, summary_of(&p).lg_k);
+    CHECK((summary_of(&p).stage == HLL_REGISTERS) == (p.image.at[7] % 4 == HLL_REGISTERS), "lg_k %d", p.lg_k);
     free_pair(&p);
 }
 
@@ -313,17 +378,26 @@ static void refusals(void)
     uint32_t no_coupon = 5;
     size_t size = 77;
     hll_estimation found;
+    hll_state_summary summary;
     memset(state, 7, sizeof state);
     memcpy(before, state, sizeof state);
     CHECK(hll_state_new(3, state, sizeof state) == HLL_ARGUMENT && hll_state_new(22, state, sizeof state) == HLL_ARGUMENT, "lg_k");
+    CHECK(hll_state_new(1, state, sizeof state) == HLL_ARGUMENT && hll_state_new(256, state, sizeof state) == HLL_ARGUMENT, "lg_k");
     CHECK(hll_state_new(12, state, HLL_STATE_NEW - 1) == HLL_BUFFER, "39 bytes");
+    CHECK(hll_state_new(0, state, HLL_STATE_NEW - 1) == HLL_BUFFER, "39 bytes");
     CHECK(hll_state_add_value(state, sizeof state, &size, (const uint8_t *)"a", 1) == HLL_ARGUMENT, "no state");
     CHECK(hll_state_add_value(NULL, 0, &size, (const uint8_t *)"a", 1) == HLL_ARGUMENT, "no bytes");
     CHECK(hll_state_estimate(state, sizeof state, &found) == HLL_ARGUMENT, "no state");
+    CHECK(hll_state_info(state, sizeof state, &summary, sizeof summary) == HLL_ARGUMENT, "no state");
     CHECK(hll_state_image(state, sizeof state, 8, out, sizeof out, &size) == HLL_ARGUMENT, "no state");
     CHECK(memcmp(before, state, sizeof state) == 0 && size == 77, "refused calls changed something");
     need(hll_state_new(12, state, sizeof state) == HLL_OK, "a new state");
     memcpy(before, state, sizeof state);
+    CHECK(hll_state_info(state, 39, &summary, sizeof summary) == HLL_ARGUMENT, "39 bytes");
+    CHECK(hll_state_info(state, sizeof state, &summary, sizeof summary - 1) == HLL_ARGUMENT, "another size of the structure");
+    CHECK(hll_state_info(state, sizeof state, &summary, sizeof summary) == HLL_OK && summary.size == HLL_STATE_NEW &&
+              summary.lg_k == 12 && summary.width == 8 && summary.stage == HLL_SET && summary.is_empty == 1 && summary.is_open == 0,
+          "a new state says something else");
     CHECK(hll_state_add(state, sizeof state, &size, (const uint8_t *)"abc", 3, descending, 2) == HLL_ARGUMENT, "ends");
     CHECK(hll_state_add(state, sizeof state, &size, (const uint8_t *)"abc", 3, past, 2) == HLL_ARGUMENT, "ends");
     CHECK(hll_state_add_coupons(state, sizeof state, &size, &no_coupon, 1) == HLL_ARGUMENT, "no coupon");
@@ -350,6 +424,59 @@ static void changed_bytes(void)
               hll_state_image(state, sizeof state, 8, later, sizeof later, &later_size) == HLL_OK && size == later_size &&
               memcmp(image, later, size) == 0,
           "the sketch changed");
+}
+
+/* States as they began before they had a version: no call takes them for states. */
+static void other_versions(void)
+{
+    static const uint8_t coupons[HLL_STATE_NEW] = {0x41, 0x4c, 0x48, 0x4c, 4, 0, 0, 0, 0, 0, 0, 0, 3},
+                         registers[HLL_STATE_NEW] = {0x42, 0x4c, 0x48, 0x4c, 4};
+    const uint8_t *const heads[] = {coupons, registers};
+    uint8_t state[HLL_STATE_NEW + 16], before[sizeof state], own[HLL_STATE_MOST(4)], out[64];
+    hll_state_summary summary;
+    hll_estimation found;
+    size_t size = 77, i;
+    need(hll_state_new(4, own, sizeof own) == HLL_OK, "a new state");
+    for (i = 0; i < 2; i++) {
+        memset(state, 0, sizeof state);
+        memcpy(state, heads[i], HLL_STATE_NEW);
+        memcpy(before, state, sizeof state);
+        CHECK(hll_state_info(state, sizeof state, &summary, sizeof summary) == HLL_ARGUMENT, "info, %zu", i);
+        CHECK(hll_state_add_value(state, sizeof state, &size, (const uint8_t *)"a", 1) == HLL_ARGUMENT, "a value, %zu", i);
+        CHECK(hll_state_image(state, sizeof state, 8, out, sizeof out, &size) == HLL_ARGUMENT, "an image, %zu", i);
+        CHECK(hll_state_estimate(state, sizeof state, &found) == HLL_ARGUMENT, "an estimate, %zu", i);
+        CHECK(hll_state_join_state(0, own, sizeof own, &size, state, sizeof state) == HLL_ARGUMENT, "the other state, %zu", i);
+        CHECK(hll_state_join_state(0, state, sizeof state, &size, own, sizeof own) == HLL_ARGUMENT, "the state, %zu", i);
+        CHECK(size == 77 && memcmp(before, state, sizeof state) == 0, "a state of another version changed, %zu", i);
+        memcpy(state, own, 4); /* and with what this version begins with, it is one */
+        CHECK(i == 1 || hll_state_info(state, sizeof state, &summary, sizeof summary) == HLL_OK, "this version, %zu", i);
+    }
+}
+
+/* A state that was read is read again without a change, also by the calls that join it to another. */
+static void settled(void)
+{
+    static const size_t counts[] = {0, 1, 7, 8, 100, 300, 383, 384, 5000};
+    size_t i;
+    for (i = 0; i < sizeof counts / sizeof *counts; i++) {
+        pair p = new_pair(12), other = new_pair(12);
+        bytes before, out = with_room(HLL_IMAGE_MAX(12));
+        size_t size = 0;
+        if (counts[i] != 0)
+            add(&p, 1, counts[i], 2 * counts[i], 1);
+        CHECK(estimates_alike(&p), "%zu values", counts[i]);
+        before = with_room(p.room);
+        memcpy(before.at, p.state, p.room);
+        move_to(&other, HLL_STATE_MOST(12));
+        CHECK(hll_state_image(p.state, p.room, 6, out.at, out.len, &size) == HLL_OK && estimates_alike(&p) &&
+                  hll_state_join_state(12, other.state, other.room, &size, p.state, p.room) == HLL_OK,
+              "%zu values", counts[i]);
+        CHECK(memcmp(before.at, p.state, p.room) == 0, "%zu values: reading changed a state that was read", counts[i]);
+        free(before.at);
+        free(out.at);
+        free_pair(&p);
+        free_pair(&other);
+    }
 }
 
 /* Joins that are refused, each of which changes nothing. */
@@ -445,12 +572,16 @@ int main(int argc, char **argv)
     refusals();
     refused_joins();
     changed_bytes();
+    other_versions();
+    settled();
     for (lg_k = 4; lg_k <= 10; lg_k++)
         each_count(lg_k);
     for (number = 0; number < walks; number++)
         walk(&random, most_lg_k);
     for (number = 0; number < walks; number++)
         walk_of_joins(&random, most_lg_k - 1);
+    for (number = 0; number < walks; number++)
+        walk_of_open_states(&random, most_lg_k - 1);
     for (number = 0; number < walks; number++)
         strange_bytes(&random);
     return finish("states");

@@ -217,7 +217,7 @@ static void test_memory()
     const image_bytes image = one.serialize();
     const size_t before = one.memory_size();
     one.shrink_to_fit();
-    CHECK(one.memory_size() == 40 + 4 * 300 && one.memory_size() <= before && one.serialize() == image);
+    CHECK(one.memory_size() <= 40 + 4 * 300 && one.memory_size() <= before && one.serialize() == image);
     for (int i = 0; i < 5000; i++)
         one.update(i);
     one.shrink_to_fit();

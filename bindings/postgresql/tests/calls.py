@@ -319,7 +319,7 @@ ROWS = "SELECT CASE WHEN n = %d THEN %s WHEN n %% 3 = 0 THEN NULL ELSE %s END i 
 
 
 def reasons(server):
-    """Each by its word, code and row, from each function."""
+    """Each by its word and code, from each function."""
     equal("the reasons tried", sorted({word for word, _ in bad_images()}), sorted(REASONS))
     for word, image in bad_images():
         bad, good = literal(image), literal(GOOD)
@@ -334,7 +334,28 @@ def reasons(server):
                 refused("%s of %s" % (call, word), said, IMAGE, "invalid HLL image in argument %d: %s\n" % (number, word))
         for row in (1, 2, 5, 40, 400):
             said = server.run("SELECT hll_image_union_agg(i) FROM (%s) x;" % (ROWS % (row, bad, good, row + 9)))
-            refused("row %d of %s" % (row, word), said, IMAGE, "invalid HLL image in row %d: %s\n" % (row, word))
+            refused("row %d of %s" % (row, word), said, IMAGE, "invalid HLL image: %s\n" % word)
+            check("its hint", "HINT:  %s, and hll_fault(image) says why.\n" % FINDING in said, said)
+    finding(server)
+
+
+FINDING = "SELECT .. WHERE NOT hll_is_image(image) finds such rows"
+
+
+def finding(server):
+    """What the hints say finds each bad image of a table, and no other row; the aggregate of the rows that are left is made."""
+    bad = bad_images() + [("trailing", GOOD + b"\0")]
+    server.ask("CREATE TABLE found (n int, image bytea)")
+    load(server, "found", [(n, one) for n, image in enumerate(image for _, image in bad) for one in (image, GOOD, None)])
+    wanted = "\n".join("%d|%s" % (n, word) for n, (word, _) in enumerate(bad))
+    equal("the query of the hint", server.ask("SELECT n, hll_fault(image) FROM found WHERE NOT hll_is_image(image) ORDER BY n"), wanted)
+    for name in ("hll_image_union_agg", "hyperloglog_union_agg"):
+        said = server.run("SELECT n, %s(image) FROM found GROUP BY n;" % name)
+        check("the hint of %s by group" % name, said.startswith("ERROR:  %s: invalid HLL image: " % IMAGE) and FINDING in said, said)
+    server.ask("DELETE FROM found WHERE NOT hll_is_image(image)")
+    equal("what is left", server.ask("SELECT count(*), count(hll_image_union_agg) FROM (SELECT hll_image_union_agg(image) FROM found GROUP BY n) x"),
+          "%d|%d" % (len(bad), len(bad)))
+    server.ask("DROP TABLE found")
 
 
 # ---- bytes after an image
@@ -374,4 +395,5 @@ def followed(server, image, more):
             refused("%s, bytes after one%s" % (call, place), server.run("SELECT %s;" % (call % both)), IMAGE, "invalid HLL image%s%s" % (place, follow))
     for aggregate in ("hll_image_union_agg", "hyperloglog_union_agg"):
         said = server.run("SELECT %s(i) FROM (VALUES (%s), (NULL), (%s)) x(i);" % (aggregate, good, longer))
-        refused(aggregate + " with bytes after a row", said, IMAGE, "invalid HLL image in row 3" + follow)
+        refused(aggregate + " with bytes after a row", said, IMAGE, "invalid HLL image" + follow)
+        check("its hint", "cuts off what follows. %s.\n" % FINDING in said, said)

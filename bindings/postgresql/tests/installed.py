@@ -2,6 +2,7 @@
 """The extension as it is built and installed: its names, its marks, beside others, in dumps, and in its README."""
 import itertools
 import os
+import pathlib
 import re
 import shutil
 import subprocess
@@ -88,7 +89,7 @@ def short_names(server):
 
 
 def marks(server):
-    """Functions are immutable and parallel safe, and strict but for those that see NULLs; another schema serves too."""
+    """Functions are immutable (but the version is stable) and parallel safe, and strict but for those that see NULLs; another schema serves too."""
     found = server.ask("""SELECT proname, provolatile, proparallel, proisstrict
         FROM pg_proc JOIN pg_depend ON objid = pg_proc.oid JOIN pg_extension e ON refobjid = e.oid
         WHERE extname = 'hll_sketches' AND classid = 'pg_proc'::regclass""").split("\n")
@@ -96,7 +97,7 @@ def marks(server):
     for line in found:
         name, *said = line.split("|")
         sees_nulls = re.search("_trans|_combine|_final|_agg|^hll_add$", name) is not None
-        equal("marks of " + name, said, ["i", "s", "f" if sees_nulls else "t"])
+        equal("marks of " + name, said, ["s" if name == "hll_version" else "i", "s", "f" if sees_nulls else "t"])
     server.ask("CREATE DATABASE elsewhere")
     server.ask("""CREATE SCHEMA sketches;
         CREATE EXTENSION hll_sketches SCHEMA sketches;
@@ -104,7 +105,14 @@ def marks(server):
         ALTER EXTENSION hll_sketches SET SCHEMA other""", "elsewhere")
     said = server.run("SELECT other.hll_info(x.i::other.hyperloglog) FROM (SELECT other.hll_image_empty(9, 6) i) x;", "elsewhere")
     equal("in another schema", said, "(9,6,list,0,0)")
+    equal("the version", server.ask("SELECT other.hll_version()", "elsewhere"), version_of_header())
     equal("dropped", server.run("DROP EXTENSION hll_sketches;", "elsewhere"), "")
+
+
+def version_of_header():
+    """The version of the library, as its header has it."""
+    header = (pathlib.Path(__file__).resolve().parents[2] / "c" / "hll.h").read_text()
+    return ".".join(re.search(r"#define HLL_VERSION_%s (\d+)" % part, header)[1] for part in ("MAJOR", "MINOR", "PATCH"))
 
 
 # ---- updates and dumps

@@ -42,8 +42,7 @@ static inline void looks_read(const uint8 *image, size_t size)
 #define MERGING(name, lg_k, width, left, left_size, right, right_size, ...) \
 	(looks_read(left, left_size), looks_read(right, right_size), \
 	 (name)(lg_k, width, left, left_size, right, right_size, ##__VA_ARGS__))
-#define JOINING(name, lg_k, state, room, needed, image, size) \
-	(looks_read(image, size), (name)(lg_k, state, room, needed, image, size))
+#define JOINING(name, counter, image, size) (looks_read(image, size), (name)(counter, image, size))
 
 #define hll_image_info(...) READING(hll_image_info, __VA_ARGS__)
 #define hll_image_check(...) READING(hll_image_check, __VA_ARGS__)
@@ -56,4 +55,4 @@ static inline void looks_read(const uint8 *image, size_t size)
 #define hll_hip_estimate(...) READING(hll_hip_estimate, __VA_ARGS__)
 #define hll_images_agree(...) READING_TWO(hll_images_agree, __VA_ARGS__)
 #define hll_image_merge(...) MERGING(hll_image_merge, __VA_ARGS__)
-#define hll_state_join(...) JOINING(hll_state_join, __VA_ARGS__)
+#define hll_counter_join(...) JOINING(hll_counter_join, __VA_ARGS__)

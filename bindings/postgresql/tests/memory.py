@@ -100,7 +100,7 @@ def cancelled(server, session, count):
 
 # Sketches of so many values, or unions of five sketches of so many, and the most bytes of a group, by hash: of NULLs alone, of
 # one coupon, of some, and of registers. Values come group by group, and sketches to all groups in turn.
-GROUP_BYTES = [("count", 0, 128), ("count", 1, 256), ("count", 20, 512), ("count", 300, 2500), ("count", 2000, 5000),
+GROUP_BYTES = [("count", 0, 160), ("count", 1, 256), ("count", 20, 512), ("count", 300, 2500), ("count", 2000, 5000),
                ("union", 20, 1024), ("union", 2000, 4500)]
 OF_GROUPS = 1000
 SOURCES = {"count": ("(SELECT v / greatest(COUNT, 1) k, CASE WHEN COUNT > 0 THEN v END n FROM generate_series(0, GROUPS * greatest(COUNT, 1) - 1) v "

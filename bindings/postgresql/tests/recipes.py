@@ -1,8 +1,11 @@
 # SPDX-License-Identifier: Apache-2.0
 """The SQL of docs/RECIPES.md, pasted into one psql, and what the page says of it."""
 import os
+import pathlib
 import re
 import subprocess
+import sys
+import tempfile
 
 from report import CHECKED, DATA, check, equal, refused, skip
 from server import HERE
@@ -39,8 +42,11 @@ def recipes(server):
     check("recipes have queries", len(blocks) >= 6, len(blocks))
     server.ask("CREATE DATABASE visits")
     server.ask(STAND_IN % server.ask("SELECT hll_image_add_agg('visitor ' || n, 12, 4) FROM generate_series(1, 3) n"), "visits")
-    said = server.run("".join(blocks), "visits").split("\n")
-    equal("recipes print what they show", said, re.findall(r"^--> (.*)$", "".join(blocks), re.M))
+    with tempfile.TemporaryDirectory() as folder:
+        rows_for_copy(folder)
+        said = server.run("".join(blocks), "visits", folder).split("\n")
+        equal("recipes print what they show", said, re.findall(r"^--> (.*)$", "".join(blocks), re.M))
+        files_of_copy(folder)
     months(server)
     cron(server, text)
     windows(server)
@@ -48,6 +54,31 @@ def recipes(server):
     others(server)
     if "CREATE FOREIGN TABLE" in text:
         shards(server)
+
+
+def run_python(folder, *marks):
+    """Runs the blocks in Python of the page that have one of these texts."""
+    blocks = re.findall(r"^```python\n(.*?)^```$", PAGE.read_text(), re.S | re.M)
+    chosen = [code for code in blocks if any(mark in code for mark in marks)]
+    equal("blocks in Python", len(chosen), len(marks))
+    environment = dict(os.environ, PYTHONPATH=str(HERE.parent / "python"))
+    done = subprocess.run([sys.executable, "-B", "-c", "".join(chosen)], cwd=folder, env=environment, stdout=subprocess.PIPE,
+                          stderr=subprocess.STDOUT, text=True)
+    equal("a block in Python", (done.returncode, done.stdout), (0, ""))
+
+
+def rows_for_copy(folder):
+    """The file that psql loads, of files of sketches."""
+    run_python(folder, 'Path(f"days/{day', 'open("daily.tsv", "w")')
+
+
+def files_of_copy(folder):
+    """Files again, of what psql has written: they are the same."""
+    run_python(folder, 'open("daily.tsv") as rows')
+    place = pathlib.Path(folder)
+    before = {"%s-%s" % (path.parent.name, path.name): path.read_bytes() for path in place.glob("days/*/*.hll")}
+    equal("files, a table and files", {path.name: path.read_bytes() for path in place.glob("from_table/*")}, before)
+    equal("many files", len(before), 40)
 
 
 def counted(server, month):

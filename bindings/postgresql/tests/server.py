@@ -213,10 +213,10 @@ class Server:
     def psql(self, *arguments):
         return [str(self.bin / "psql"), "-X", "-q", "-A", "-t", "-F", "|", *arguments]
 
-    def run(self, sql, database="postgres"):
-        """What psql answers: the rows, with errors among them (SQLSTATE first); it goes on after an error."""
+    def run(self, sql, database="postgres", folder=None):
+        """What psql answers, in a folder: the rows, with errors among them (SQLSTATE first); it goes on after an error."""
         done = subprocess.run(self.psql("-v", "VERBOSITY=verbose", "-d", database), input=sql, env=self.environment,
-                              stdout=subprocess.PIPE, stderr=subprocess.STDOUT, text=True)
+                              stdout=subprocess.PIPE, stderr=subprocess.STDOUT, text=True, cwd=folder)
         return done.stdout.rstrip("\n")
 
     def ask(self, sql, database="postgres"):

@@ -2,7 +2,7 @@
 """The shared library: where it is, and its calls over bytes.
 
 Bytes are passed without a copy, and no call keeps a pointer. While a call runs, other Python threads
-run too. They wait while a state is changed, so no thread, and no forked child, sees a state that is
+run too. They wait during a call on a counter, so no thread, and no forked child, sees a counter that is
 half changed.
 """
 from __future__ import annotations
@@ -19,7 +19,7 @@ from ctypes import c_uint, c_uint8, c_uint32, c_uint64
 from itertools import accumulate
 from operator import index
 from typing import TYPE_CHECKING, Callable, Dict, Iterable, List, Optional, Sequence, SupportsIndex
-from typing import Tuple, Type, TypeVar
+from typing import Type, TypeVar
 
 from ._errors import ArgumentError, ImageError
 from ._locks import loading
@@ -90,6 +90,50 @@ class Info(ctypes.Structure):
     ]
 
 
+class Summary(ctypes.Structure):
+    """``hll_state_summary`` of hll.h."""
+
+    size: int
+    lg_k: int
+    width: int
+    stage: int
+    is_empty: int
+    is_open: int
+    _fields_ = [
+        ("size", c_uint64),
+        ("lg_k", c_uint8),
+        ("width", c_uint8),
+        ("stage", c_uint8),
+        ("is_empty", c_uint8),
+        ("is_open", c_uint8),
+    ]
+
+
+class Counter(ctypes.Structure):
+    """``hll_counter`` of hll.h: a sketch that grows by itself. Its memory is freed with the object.
+
+    Attributes
+    ----------
+    room : int
+        How many bytes are allocated, in addition to the structure.
+    """
+
+    room: int
+    resize: Optional[int]
+    _fields_ = [
+        ("state", c_void_p),
+        ("room", c_size_t),
+        ("spare", c_void_p),
+        ("resize", c_void_p),
+        ("others", c_uint64 * 10),
+    ]
+
+    def __del__(self) -> None:
+        # without `resize` it was never initialised; without `_library` Python is about to end
+        if self.resize and _library is not None:
+            _library.hll_counter_free(byref(self))
+
+
 class Histogram(ctypes.Structure):
     """``hll_histogram`` of hll.h."""
 
@@ -116,7 +160,7 @@ _IMAGE = [c_char_p, c_size_t]
 _ENDS = [c_void_p, c_size_t]
 _OUT = [c_void_p, c_size_t, c_void_p]
 _REGISTERS = [c_void_p, c_size_t]
-_STATE = [c_void_p, c_size_t]
+_COUNTER = [c_void_p]
 _CALLS = {
     "hll_image_info": _IMAGE + [POINTER(Info), c_size_t],
     "hll_image_check": _IMAGE,
@@ -145,11 +189,22 @@ _CALLS = {
     "hll_registers_histogram": _REGISTERS + [POINTER(Histogram)],
     "hll_registers_image": _REGISTERS + [c_uint] + _OUT,
     "hll_registers_estimate": _REGISTERS + [POINTER(Estimation)],
-    "hll_state_new": [c_uint] + _STATE,
-    "hll_state_join": [c_uint] + _STATE + [c_void_p] + _IMAGE,
-    "hll_state_image": _STATE + [c_uint] + _OUT,
+    "hll_counter_init": _COUNTER + [c_uint, c_void_p, c_void_p],
+    "hll_counter_free": _COUNTER,
+    "hll_counter_copy": _COUNTER + _COUNTER,
+    "hll_counter_join": _COUNTER + _IMAGE,
+    "hll_counter_settle": _COUNTER,
+    "hll_counter_shrink": _COUNTER,
+    "hll_counter_info": _COUNTER + [POINTER(Summary), c_size_t],
+    "hll_counter_image": _COUNTER + [c_uint] + _OUT,
+    "hll_counter_estimate": _COUNTER + [POINTER(Estimation)],
 }
-_ANSWERS = {"hll_coupon": c_uint32, "hll_version": c_uint32}
+_ANSWERS: Dict[str, object] = {
+    "hll_coupon": c_uint32,
+    "hll_version": c_uint32,
+    "hll_counter_free": None,
+    "hll_counter_shrink": None,
+}
 
 
 def _is_in_checkout(package: pathlib.Path) -> bool:
@@ -214,15 +269,25 @@ def _check_answers(calls: Dict[str, Call]) -> None:
     counts = list(_filled(calls["hll_image_histogram"], Histogram).counts)
     if counts != [1023, 0, 0, 1] + [0] * 60:
         raise ImportError("its histogram is laid out in another way")
+    _check_counter(calls["hll_counter_init"])
     estimation = _filled(calls["hll_estimate"], Estimation)
     if not 0 < estimation.lower[2] <= estimation.estimate <= estimation.upper[2] < 9:
         raise ImportError("its estimation is laid out in another way")
 
 
+def _check_counter(init: Call) -> None:
+    """Raises an error for a library whose counters have another size."""
+    size, guard = ctypes.sizeof(Counter), b"\xa5" * 256
+    room = (c_uint8 * (size + len(guard))).from_buffer_copy(b"\xa5" * size + guard)
+    filled = bytes(room) if init(room, LEAST_LG_K, None, None) == OK else b""
+    if filled[size:] != guard or b"\xa5" * 4 in filled[size - 4 : size]:
+        raise ImportError("its counter is laid out in another way")
+
+
 def _calls_of(place: str) -> Dict[str, Call]:
     """Returns the calls of a library by their names."""
     library, whole = ctypes.CDLL(place), ctypes.PyDLL(place)
-    calls = {name: getattr(whole if "_state_" in name else library, name) for name in _CALLS}
+    calls = {name: getattr(whole if "_counter_" in name else library, name) for name in _CALLS}
     for name, call in calls.items():
         call.argtypes, call.restype = _CALLS[name], _ANSWERS.get(name, c_uint8)
     _check_version(calls["hll_version"]())
@@ -596,71 +661,56 @@ def image_of(registers: Memory, width: int) -> bytes:
         raise _refused_registers(REGISTER) from None
 
 
-# ---- states
+# ---- counters
 
-STATE_NEW = 40
-"""The bytes of a new state."""
-
-
-def new_state(lg_k: int) -> Memory:
-    """Returns the state of an empty sketch."""
-    state = (c_uint8 * STATE_NEW)()
-    _ensure(_library.hll_state_new(lg_k, state, STATE_NEW))
-    return state
+ALLOCATOR: Optional[Callable[..., Optional[int]]] = None
+"""The function that allocates the memory of counters, of the type ``hll_resize``; None is ``malloc``."""
 
 
-def copied(memory: Memory, size: int = 0) -> Memory:
-    """Returns a copy of memory, which may be larger."""
-    made = (c_uint8 * max(size, len(memory)))()
-    ctypes.memmove(made, memory, len(memory))
+def new_counter(lg_k: int) -> Counter:
+    """Returns an empty counter. If ``lg_k`` is 0, what is merged decides it."""
+    made = Counter()
+    _ensure(_library.hll_counter_init(byref(made), lg_k, ALLOCATOR, None))
     return made
 
 
-def joined(state: Memory, lg_max_k: int, image: bytes) -> Tuple[Memory, bool]:
-    """Merges an image into a state. Returns the state, in the same memory or in a larger copy; or False,
-    without a change, if the image has another ``lg_k`` and the bound is 0."""
-    size = c_size_t()
-    while True:
-        status = _library.hll_state_join(
-            lg_max_k, state, len(state), byref(size), image, len(image)
-        )
-        if status != BUFFER:
-            break
-        state = copied(state, size.value)
+def copy_counter(to: Counter, counter: Counter) -> None:
+    """Makes one counter the copy of another."""
+    _ensure(_library.hll_counter_copy(byref(to), byref(counter)))
+
+
+def join_counter(counter: Counter, image: bytes) -> bool:
+    """Merges an image into a counter. Returns False, without a change, if the image has another ``lg_k``
+    and the counter has no bound."""
+    status = _library.hll_counter_join(byref(counter), image, len(image))
     if status not in (OK, OTHER_LG_K):
         raise _refusal(status)
-    return state, status == OK
+    return status == OK
 
 
-def image_of_state(state: Memory, width: int) -> bytes:
-    """Returns the image of a state, with the estimator fields of its registers."""
-    return _written(_library.hll_state_image, 64 + len(state), state, len(state), width)
+def settle_counter(counter: Counter) -> None:
+    """Sorts the coupons of a counter, and frees the room that it doesn't need."""
+    _ensure(_library.hll_counter_settle(byref(counter)))
+    _library.hll_counter_shrink(byref(counter))
 
 
-def trimmed(state: Memory) -> Memory:
-    """Returns the state without its free room, if that is most of its memory."""
-    size = _size_of_state(state)
-    if len(state) <= 2 * size:
-        return state
-    made = (c_uint8 * size)()
-    ctypes.memmove(made, state, size)
-    return made
+def image_of_counter(counter: Counter, width: int) -> bytes:
+    """Returns the image of a counter, with the estimator fields of its registers."""
+    return _written(_library.hll_counter_image, 64 + counter.room, byref(counter), width)
 
 
-def _size_of_state(state: Memory) -> int:
-    """Returns ``hll_state_size`` of hll.h, or the size of the memory if coupons are to become registers."""
-    lg_k = state[4] & 31
-    if state[0] == 0x42:
-        return STATE_NEW + (1 << lg_k)
-    used = int.from_bytes(state[24:28], "little")
-    few = 7 if lg_k < 8 else 3 << (lg_k - 5)
-    return STATE_NEW + 4 * used if used <= few else len(state)
+def summary_of(counter: Counter) -> Summary:
+    """Returns what a counter says."""
+    found = Summary()
+    _ensure(_library.hll_counter_info(byref(counter), byref(found), ctypes.sizeof(Summary)))
+    return found
 
 
-def width_of_state(state: Memory) -> int:
-    """Returns the width of what was merged into a state, or 8 if the widths differ or nothing was
-    merged."""
-    return {1: 4, 2: 6}.get(state[8] & 7, 8)
+def estimation_of_counter(counter: Counter) -> Estimation:
+    """Returns an estimate of a counter, with its bounds."""
+    found = Estimation()
+    _ensure(_library.hll_counter_estimate(byref(counter), byref(found)))
+    return found
 
 
 # ---- headers

@@ -23,9 +23,20 @@ def _is_missing(value: Any) -> bool:
         return False
 
 
-def _refusal(number: int, value: object) -> ArgumentError:
+class MissingError(ArgumentError):
+    """A value is missing. ``number`` is its position."""
+
+    def __init__(self, number: int, words: str) -> None:
+        super().__init__(number, words)
+        self.number, self.words = number, words
+
+    def __str__(self) -> str:
+        return self.words
+
+
+def _refusal(number: int, value: object) -> MissingError:
     cure = "pass skip_missing=True to leave missing values out"
-    return ArgumentError(f"value {number:,} is missing ({value!r}): {cure}")
+    return MissingError(number, f"value {number:,} is missing ({value!r}): {cure}")
 
 
 class Missing:

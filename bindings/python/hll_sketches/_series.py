@@ -7,7 +7,7 @@ of integers if a value is missing: of ``Int64`` since pandas 2.2, and of categor
 from __future__ import annotations
 
 import sys
-from typing import Any, List
+from typing import Any, List, Optional
 
 
 def is_of_pandas(values: Any) -> bool:
@@ -34,6 +34,36 @@ def values_of(column: Any) -> Any:
         name, cure = type(column).__name__, "pass a list of its values"
         raise TypeError(f"a {name} of {dtype} can't be counted, as it makes an array of {made.dtype}: {cure}")
     return made
+
+
+def shown_key(key: Any) -> str:
+    """Returns the key of a group, or the label of a row, for an error."""
+    if isinstance(key, tuple):
+        return "(" + ", ".join(map(shown_key, key)) + ")"
+    return repr(key) if isinstance(key, (str, bytes)) else str(key)
+
+
+def place_in(column: Any, number: int) -> Optional[str]:
+    """Returns where an item of a Series is, for an error: the Series' name, and the label of the row.
+    Returns None for other iterables.
+
+    The name is that of the column. But in ``groupby(..).apply(..)`` pandas gives each group its key as name.
+    """
+    if not (is_of_pandas(column) and hasattr(column, "index") and hasattr(column, "name")):
+        return None
+    row = f"row {shown_key(column.index[number])}"
+    return row if column.name is None else f"{shown_key(column.name)}, {row}"
+
+
+def named(error: Exception, column: Any) -> Exception:
+    """Returns an error about the values of a Series, with its name, which is the key of a group in ``apply``,
+    and with the label of the row if the error has a position. Other errors stay as they are."""
+    number = getattr(error, "number", None)
+    place = place_in(column, number or 0) if hasattr(column, "index") and len(column) else None
+    if place is None or column.name is None and number is None:
+        return error
+    words = f"{shown_key(column.name) if number is None else place}: {error}"
+    return type(error)(words) if number is None else type(error)(number, words)
 
 
 def _of_extension(values: Any) -> Any:

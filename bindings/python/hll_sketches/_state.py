@@ -1,10 +1,10 @@
 # SPDX-License-Identifier: Apache-2.0
-"""Unions, as states of the library (``hll_state_*`` of hll.h)."""
+"""Unions, as counters of the library (``hll_counter`` of hll.h)."""
 from __future__ import annotations
 
 from itertools import islice
 from operator import itemgetter
-from typing import Iterable, Optional, Sequence, Set, Tuple, TypeVar
+from typing import Iterable, Optional, Sequence, Set, Tuple
 
 from . import _library
 from ._errors import ImageError, PrecisionError
@@ -16,10 +16,8 @@ BATCH_IMAGES, BATCH_BYTES = 4096, 1 << 18
 """The number of images, and of their bytes, that are merged by one call: they fit a cache."""
 
 LARGE = 1 << 16
-"""A larger image is checked before it is merged: other threads wait while a state changes, and an
+"""A larger image is checked before it is merged: other threads wait while a counter changes, and an
 untrusted image can take a second to read."""
-
-_S = TypeVar("_S", bound="State")
 
 _kind = itemgetter(slice(3, 8, 4))
 """The part of an image that has its ``lg_k`` and its width."""
@@ -36,9 +34,9 @@ def _kinds(images: Iterable[bytes]) -> Set[Tuple[int, int]]:
 
 
 class State:
-    """The union of images, in memory that grows.
+    """The union of images.
 
-    The rule is that of ``hll_state_join``. Without a bound, only images of one ``lg_k`` are merged,
+    The rule is that of ``hll_counter_join``. Without a bound, only images of one ``lg_k`` are merged,
     and empty images count for nothing.
 
     Parameters
@@ -52,29 +50,39 @@ class State:
         How many images were merged.
     """
 
-    __slots__ = ("lg_max_k", "count", "_memory")
+    __slots__ = ("lg_max_k", "count", "_counter")
 
     def __init__(self, lg_max_k: int = 0) -> None:
         self.lg_max_k, self.count = lg_max_k, 0
-        self._memory = _library.new_state(lg_max_k or _library.LEAST_LG_K)
+        self._counter = _library.new_counter(lg_max_k)
 
-    def copy(self: _S) -> _S:
-        """Return an independent copy."""
-        made = type(self).__new__(type(self))
-        made.lg_max_k, made.count = self.lg_max_k, self.count
-        made._memory = _library.copied(self._memory)
-        return made
+    def become(self, other: "State") -> None:
+        """Replaces the union by a copy of another, of the same bound."""
+        _library.copy_counter(self._counter, other._counter)
+        self.count = other.count
 
     @property
     def lg_k(self) -> int:
         """The ``lg_k`` of the union so far; without images, the ``lg_k`` that ``image`` uses."""
-        return self._memory[4] & 31 if self.count or self.lg_max_k else DEFAULT
+        return self._summary().lg_k if self.count or self.lg_max_k else DEFAULT
 
     @property
     def width(self) -> int:
         """The width of the images that are not empty, or of all images if all are empty; 8 if the
         widths differ."""
-        return _library.width_of_state(self._memory)
+        return self._summary().width
+
+    @property
+    def is_empty(self) -> bool:
+        """Whether no value was counted."""
+        return bool(self._summary().is_empty)
+
+    def estimation(self) -> _library.Estimation:
+        """Return an estimate of the union, with its bounds."""
+        return _library.estimation_of_counter(self._counter)
+
+    def _summary(self) -> _library.Summary:
+        return _library.summary_of(self._counter)
 
     def join(self, image: bytes) -> None:
         """Merges an image.
@@ -88,8 +96,7 @@ class State:
         """
         if len(image) > LARGE:
             image = _library.convert(image, _library.width_in(image))
-        self._memory, is_joined = _library.joined(self._memory, self.lg_max_k, image)
-        if not is_joined:
+        if not _library.join_counter(self._counter, image):
             raise PrecisionError(image[3], self.lg_k)
         self.count += 1
 
@@ -142,7 +149,7 @@ class State:
             most = max(1, min(BATCH_IMAGES, 8 * most, most * BATCH_BYTES // size + 1))
 
     def image(self, width: Optional[int] = None) -> bytes:
-        """Return the image of the union.
+        """Return the image of the union. Its memory is then no larger than it must be.
 
         Parameters
         ----------
@@ -151,9 +158,8 @@ class State:
         """
         if not self.count and not self.lg_max_k:
             return _library.new(DEFAULT, width or 8)
-        image = _library.image_of_state(self._memory, width or self.width)
-        self._memory = _library.trimmed(self._memory)
-        return image
+        _library.settle_counter(self._counter)
+        return _library.image_of_counter(self._counter, width or self.width)
 
 
 def united(images: Sequence[bytes], lg_max_k: int = 0) -> bytes:

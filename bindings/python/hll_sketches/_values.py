@@ -12,9 +12,10 @@ from typing import SupportsIndex, Union, cast
 from . import _library
 from ._columns import Batch, Column, bytes_of_float, column_of, eights_of_floats, single_of
 from ._columns import singly
+from ._errors import ArgumentError
 from ._library import Numbers
 from ._missing import Missing
-from ._series import is_of_pandas, values_of
+from ._series import is_of_pandas, named, values_of
 
 Value = Union[bytes, bytearray, memoryview, str, int, float, SupportsIndex]
 """What can be counted: bytes, text, or a number."""
@@ -158,11 +159,20 @@ def batches(
 ) -> Iterator[Batch]:
     """Yields the bytes of the values and their ends, in batches of about `ENOUGH` bytes.
 
-    An image of `size` bytes is read and written for each batch.
+    An image of `size` bytes is read and written for each batch. Errors name the row of a column of pandas.
     """
     _refuse_one(values)
-    if is_of_pandas(values):
-        values = values_of(values)
+    if not is_of_pandas(values):
+        yield from _batches(values, size, missing)
+        return
+    try:
+        yield from _batches(values_of(values), size, missing)
+    except (ArgumentError, TypeError, OverflowError) as error:
+        raise named(error, values) from None
+
+
+def _batches(values: Iterable[Value], size: int, missing: Optional[Missing]) -> Iterator[Batch]:
+    """Yields what ``batches`` yields."""
     column = column_of(values)
     if column is not None:
         yield from _batches_of(column, size, missing)

@@ -7,6 +7,7 @@ import struct
 from heapq import merge
 from itertools import groupby
 from operator import itemgetter
+from tempfile import TemporaryFile
 from typing import TYPE_CHECKING, Callable, Dict, Iterable, Iterator, List, Mapping, Optional, Tuple
 from typing import TypeVar, Union
 from zlib import crc32
@@ -16,8 +17,8 @@ from ._errors import ArgumentError, HllError, ImageError, PrecisionError
 from ._names import shown
 from ._state import State
 from .files import STANDARD, UNUSABLE, FoundName, Read, Trouble, check_output, create_file
-from .files import image_trouble, locked, of_bytes, opened_to_read, read_up_to, sync_folder, target_of
-from .files import unusable, write_file, write_path
+from .files import image_trouble, locked, of_bytes, opened_to_read, read_up_to, reported_of, sync_folder
+from .files import target_of, unusable, write_file, write_path
 from .layout import ARCHIVE
 from .sketch import Sketch
 
@@ -123,17 +124,31 @@ def entries(read: Read) -> Iterator[Entry]:
         raise ArchiveError(number, "the end is wrong")
 
 
+def _header() -> bytes:
+    """Returns the first bytes of an archive."""
+    header = struct.pack("<8sI", MAGIC, VERSION)
+    return header + struct.pack("<I", crc32(header))
+
+
+def _record(key: bytes, image: bytes) -> bytes:
+    """Returns the bytes of an entry."""
+    sizes, data = struct.pack("<II", len(key), len(image)), key + image
+    return b"".join((sizes, struct.pack("<I", crc32(data, crc32(sizes))), data))
+
+
+def _end(number: int) -> bytes:
+    """Returns the last bytes of an archive with this number of entries."""
+    last = struct.pack("<II", _LAST, number & _LAST)
+    return last + struct.pack("<I", crc32(last))
+
+
 def pieces(source: Iterable[Entry]) -> Iterator[bytes]:
     """Yields the bytes of the archive of entries whose keys ascend."""
-    header = struct.pack("<8sI", MAGIC, VERSION)
-    yield header + struct.pack("<I", crc32(header))
+    yield _header()
     number = 0
-    for key, image in source:
-        sizes, data = struct.pack("<II", len(key), len(image)), key + image
-        yield b"".join((sizes, struct.pack("<I", crc32(data, crc32(sizes))), data))
-        number += 1
-    last = struct.pack("<II", _LAST, number & _LAST)
-    yield last + struct.pack("<I", crc32(last))
+    for number, (key, image) in enumerate(source, 1):
+        yield _record(key, image)
+    yield _end(number)
 
 
 # ---- files
@@ -182,6 +197,43 @@ def name_of_entry(name: str, key: bytes) -> str:
     return f"{name}, key {shown_key(key)}"
 
 
+class _Spool:
+    """The sketches of keys that ascend, in a file without a name until they are merged into the archive."""
+
+    def __init__(self, path: str) -> None:
+        self._path, self.count, self._last = path, 0, b""
+        with reported_of(path):
+            self._file = TemporaryFile(dir=os.path.dirname(target_of(path)), buffering=1 << 16)
+            self._file.write(_header())
+
+    def put(self, key: bytes, image: bytes) -> None:
+        """Adds a sketch.
+
+        Raises
+        ------
+        Trouble
+            If the key doesn't ascend, or the file can't be written.
+        """
+        if key <= self._last:
+            words = f"its lines are not sorted by the bytes of their keys, as {shown_key(key)} comes after " \
+                f"{shown_key(self._last)}: LC_ALL=C sort sorts them"
+            raise Trouble("standard input", words)
+        with reported_of(self._path):
+            self._file.write(_record(key, image))
+        self.count, self._last = self.count + 1, key
+
+    def end(self) -> None:
+        """Completes the file."""
+        with reported_of(self._path):
+            self._file.write(_end(self.count))
+            self._file.flush()
+
+    def entries(self) -> Iterator[Entry]:
+        """Yields all sketches, from the first."""
+        self._file.seek(0)
+        return entries(self._file.read)
+
+
 class Archive:
     """The archive to which lines are added by key.
 
@@ -216,6 +268,7 @@ class Archive:
         self.path, self.written, self.made = path, 0, 0
         self._empty, self._width, self._finish = _library.new(lg_k, 8), width, finish
         self._still_waiting = still_waiting
+        self._spool: Optional[_Spool] = None
         check_output(path, force)
         before = entries_of_file(path) if os.path.lexists(path) else iter(())
         others = {*range(_library.LEAST_LG_K, _library.MOST_LG_K + 1)} - {lg_k}
@@ -239,39 +292,63 @@ class Archive:
         other = self._other_lg_k.get(key)
         return self._empty if other is None else _library.new(other, 8)
 
+    def flush(self, counters: Counters, keys: List[bytes]) -> None:
+        """Moves some keys out of memory, into a file without a name. Each key has to be greater than the keys
+        before it.
+
+        Raises
+        ------
+        Trouble
+            If a key isn't, or the file can't be written.
+        """
+        if self._spool is None:
+            self._spool = _Spool(self.path)
+        for key in keys:
+            self._spool.put(key, counters.take(key))
+
     def write_all(
         self,
         counters: Counters,
         keys: List[bytes],
         more: Optional[Callable[[int], None]] = None,
     ) -> None:
-        """Merges the sketches of some keys into the archive, or makes it. ``more`` is called with their number.
+        """Merges the sketches of some keys, and of those that were flushed, into the archive, or makes it.
+        ``more`` is called with their number.
 
         Raises
         ------
         Trouble
             If the archive can't be read or written, or has another ``lg_k`` for a key by now.
         """
-        added = [(key, counters.images[key]) for key in sorted(keys)]
-        if os.path.lexists(self.path) or not self._create(added):
-            with locked(self.path, self._still_waiting):
-                write_file(self.path, lambda: pieces(self._merged(added)))
-        self.written = len(added)
+        if self._spool is None:
+            in_memory = [(key, counters.images[key]) for key in sorted(keys)]
+            self._merge_all(lambda: iter(in_memory), len(in_memory))
+        else:
+            self.flush(counters, keys)
+            self._spool.end()
+            self._merge_all(self._spool.entries, self._spool.count)
         if more is not None:
-            more(len(added))
+            more(self.written)
 
-    def _create(self, added: List[Entry]) -> bool:
+    def _merge_all(self, added: Callable[[], Iterator[Entry]], count: int) -> None:
+        """Merges sketches into the archive, or makes it."""
+        if os.path.lexists(self.path) or not self._create(added, count):
+            with locked(self.path, self._still_waiting):
+                write_file(self.path, lambda: pieces(self._merged(added())))
+        self.written = count
+
+    def _create(self, added: Callable[[], Iterator[Entry]], count: int) -> bool:
         """Makes the archive. Returns False if another process has just made it."""
-        if not create_file(self.path, lambda: pieces(self._new(*entry) for entry in added)):
+        if not create_file(self.path, lambda: pieces(self._new(*entry) for entry in added())):
             return False
-        self.made = len(added)
+        self.made = count
         sync_folder(os.path.dirname(target_of(self.path)))
         return True
 
     def _new(self, key: bytes, image: bytes) -> Entry:
         return key, self._finish(_library.convert(image, self._width))
 
-    def _merged(self, added: List[Entry]) -> Iterator[Entry]:
+    def _merged(self, added: Iterator[Entry]) -> Iterator[Entry]:
         """Yields the entries of the archive, with images merged into them."""
         self.made = 0
         present = ((key, image, True) for key, image in entries_of_file(self.path))
@@ -306,17 +383,20 @@ def _join(state: State, name: str, key: bytes, image: bytes) -> None:
     try:
         state.join(image)
     except ImageError as error:
-        raise image_trouble(name_of_entry(name, key), error.reason) from None
+        raise image_trouble(name_of_entry(name, key), error.reason, image) from None
     except PrecisionError as error:
         words = f"key {shown_key(key)} has lg_k {error.lg_k}, and before it had {error.other_lg_k}: " \
             f"--lg-k {min(error.lg_k, error.other_lg_k)} merges both"
         raise Trouble(name, words) from None
 
 
-def union_of_archives(names: List[str], lg_max_k: int, width: Optional[int]) -> Iterator[Entry]:
+def union_of_archives(
+    names: List[str], lg_max_k: int, width: Optional[int], more: Callable[[int], None]
+) -> Iterator[Entry]:
     """Yields the keys of archives, each with the union of its images.
 
-    All archives are read at the same time, one entry of each.
+    All archives are read at the same time, one entry of each. ``more`` is called with the number of images of
+    each key.
 
     Raises
     ------
@@ -331,6 +411,7 @@ def union_of_archives(names: List[str], lg_max_k: int, width: Optional[int]) -> 
         state = State(lg_max_k)
         for _, image, name in group:
             _join(state, name, key, image)
+        more(state.count)
         yield key, state.image(width)
 
 

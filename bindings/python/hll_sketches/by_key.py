@@ -3,15 +3,17 @@
 from __future__ import annotations
 
 import os
+import resource
 from collections import defaultdict
+from contextlib import ExitStack
 from typing import Any, Callable, DefaultDict, Dict, List, Optional
 from urllib.parse import quote
 
 from . import _library
 from ._values import joined
 from .adding import int_of, is_int
-from .files import UNUSABLE, FoundName, Trouble, check_output, create_file, image_at, image_of_file
-from .files import locked, sync_folder, write_file
+from .files import ALL, CONTENTS, UNUSABLE, FoundName, Item, Trouble, check_output, create_file, image_at
+from .files import image_of_file, locked, sync_folder, write_file, write_together
 from .rows import Batch, RowError, excerpt
 
 ENDING = ".hll"
@@ -22,6 +24,10 @@ LONGEST_NAME = 255
 
 KEY_BYTES = 230
 """The memory that a key needs in addition to its own bytes and those of its image."""
+
+
+TOGETHER, BYTES_TOGETHER = 64, 1 << 24
+"""How many files are written and synced together, and about how many bytes."""
 
 
 class KeyFault(ValueError):
@@ -226,34 +232,58 @@ class Directory:
         check_output(name, self._force)
         return self._empty if lg_k == self._empty[3] else _library.new(lg_k, 8)
 
-    def write(self, key: bytes, image: bytes) -> None:
-        """Merges an image into the file of a key, or makes the file.
+    def _begin_item(self, name: str, image: bytes, locks: ExitStack) -> Item:
+        """Returns what a file is to be: new, or merged, under the lock of the file."""
+        if not os.path.lexists(name):
+            return Item(name, self._finish(_library.convert(image, self._width)), True)
+        locks.enter_context(locked(name, self._still_waiting))
+        before = image_at(name, image[3])
+        merged = _library.merge(image[3], _library.width_in(before), before, image)
+        return Item(name, self._finish(merged), False)
 
-        Raises
-        ------
-        Trouble
-            If the file can't be read or written, or has another ``lg_k`` by now.
-        """
-        name = self._file_of(key)
-        if os.path.lexists(name) or not self._create(name, image):
-            self._merge(name, image)
+    def _write_alone(self, name: str, image: bytes) -> None:
+        """Merges an image into a file, or makes the file."""
+        is_written = False
+        while not is_written:
+            with ExitStack() as locks:
+                item = self._begin_item(name, image, locks)
+                if item.is_new:
+                    is_written = create_file(name, item.data)
+                else:
+                    write_file(name, item.data, ALL if os.path.islink(name) else CONTENTS)
+                    is_written = True
         self.written += 1
+        self.made += item.is_new
 
-    def _merge(self, name: str, image: bytes) -> None:
-        """Merges an image into a file, under the lock of the file."""
-        with locked(name, self._still_waiting):
-            before = image_at(name, image[3])
-            merged = _library.merge(image[3], _library.width_in(before), before, image)
-            write_file(name, self._finish(merged), sync_names=os.path.islink(name))
+    def _write_some(
+        self, images: Dict[str, bytes], more: Optional[Callable[[int], None]]
+    ) -> None:
+        """Merges images into files, or makes the files, and syncs them together.
 
-    def _create(self, name: str, image: bytes) -> bool:
-        """Makes a file. Returns False if another process has just made it."""
-        if not self.written and not os.path.isdir(self.path):
-            _make_directory(self.path)
-        data = self._finish(_library.convert(image, self._width))
-        is_new = create_file(name, data)
-        self.made += is_new
-        return is_new
+        Their locks are taken in the order of their names, and are released before any other lock is taken.
+        Otherwise two processes could wait for each other.
+        """
+        alone = [name for name in images if os.path.islink(name)]
+        with ExitStack() as locks:
+            items = [
+                self._begin_item(name, images[name], locks) for name in sorted(images) if name not in alone
+            ]
+            for item, is_written in zip(items, write_together(items)):
+                if not is_written:      # another process has just made it
+                    alone.append(item.name)
+                    continue
+                self.written += 1
+                self.made += item.is_new
+                if more is not None:
+                    more(1)
+        for name in alone:
+            self._write_alone(name, images[name])
+            if more is not None:
+                more(1)
+
+    def flush(self, counters: Counters, keys: List[bytes]) -> None:
+        """Moves some keys from memory to their files, before more lines are read."""
+        self.write_all(counters, keys)
 
     def write_all(
         self,
@@ -261,13 +291,31 @@ class Directory:
         keys: List[bytes],
         more: Optional[Callable[[int], None]] = None,
     ) -> None:
-        """Moves some keys from memory to their files. ``more`` is called with the number of files, after each."""
+        """Moves some keys from memory to their files. ``more`` is called with the number of files, after each.
+
+        Raises
+        ------
+        Trouble
+            If a file can't be read or written, or has another ``lg_k`` by now.
+        """
+        if keys and not os.path.isdir(self.path):
+            _make_directory(self.path)
+        some: Dict[str, bytes] = {}
+        count = _files_at_once()
         for key in keys:
-            self.write(key, counters.take(key))
-            if more is not None:
-                more(1)
+            some[self._file_of(key)] = counters.take(key)
+            if len(some) == count or sum(map(len, some.values())) > BYTES_TOGETHER:
+                self._write_some(some, more)
+                some.clear()
+        self._write_some(some, more)
         if keys:
             sync_folder(self.path)
+
+
+def _files_at_once() -> int:
+    """Returns how many files are written together. Each needs a descriptor, and one for its lock."""
+    soft, _ = resource.getrlimit(resource.RLIMIT_NOFILE)
+    return TOGETHER if soft == resource.RLIM_INFINITY else max(1, min(TOGETHER, (soft - 32) // 2))
 
 
 def _make_directory(path: str) -> None:

@@ -71,6 +71,14 @@ def _separator(text: str) -> bytes:
     return separator
 
 
+def _picture(text: str) -> str:
+    """A type of argument: the name of a picture. A pipe or a device has any name."""
+    is_file = not os.path.exists(text) or os.path.isfile(text)
+    if text != STANDARD and is_file and not text.lower().endswith((".svg", ".png")):
+        raise argparse.ArgumentTypeError(f"a picture is a file .svg or .png, or - for an SVG, not {text!r}")
+    return text
+
+
 # ---- arguments of several commands
 
 
@@ -100,7 +108,7 @@ def _with_output(parser: argparse.ArgumentParser, **more: Any) -> None:
 
 
 def _with_plain(parser: argparse.ArgumentParser) -> None:
-    help_ = "set the fields that other libraries estimate from to zero, as hll_merge does"
+    help_ = "set the fields that other libraries estimate from to zero, to compare bytes with those of hll_merge"
     parser.add_argument("--plain", action="store_true", help=help_)
 
 
@@ -149,6 +157,8 @@ def _estimate(parser: argparse.ArgumentParser) -> None:
     _with_files(parser, "+", "a file, an archive, or -")
     _with_deviations(parser, "print the bounds too, at 1, 2 or 3 standard deviations", None)
     _with_json(parser)
+    help_ = "print an aligned table with a header and the bounds (at 2 standard deviations)"
+    parser.add_argument("--table", action="store_true", help=help_)
 
 
 def _check(parser: argparse.ArgumentParser) -> None:
@@ -181,8 +191,9 @@ def _diff(parser: argparse.ArgumentParser) -> None:
 
 def _plot(parser: argparse.ArgumentParser) -> None:
     parser.add_argument("file", metavar="FILE", help="a file, or -")
-    help_ = "the picture to write; - is standard output"
-    parser.add_argument("-o", "--output", metavar="OUT", required=True, help=help_)
+    help_ = "the picture to write, a file .svg or .png (PNG needs the Python package cairosvg); - is " \
+        "standard output, for an SVG"
+    parser.add_argument("-o", "--output", type=_picture, metavar="OUT", required=True, help=help_)
     _with_force(parser)
     parser.add_argument("--title", help="the title of the picture (the name of the file)")
 
@@ -218,7 +229,7 @@ def _with_keys(parser: argparse.ArgumentParser) -> None:
     group.add_argument("--csv", action="store_true", default=None, help=help_)
     help_ = "the most bytes of memory for sketches, also with K, M or G (1G)"
     group.add_argument("--memory", type=_memory, metavar="BYTES", help=help_)
-    help_ = "lines are sorted by key: write each file of --by-key once its key has ended, and so use little memory"
+    help_ = "lines are sorted by key: write each sketch once its key has ended, and so use little memory"
     group.add_argument("--sorted", action="store_true", default=None, help=help_)
     group.add_argument("--lg-k", type=_lg_k, metavar="K", help="the lg_k of new keys (12)")
     help_ = "bits of a register of new keys: 4, 6 or 8 (8)"
@@ -241,27 +252,30 @@ def _add(parser: argparse.ArgumentParser) -> None:
 
 
 _COMMANDS = (
-    ("merge", _merge, "merge any number of files", "hll merge days -o year.hll"),
-    ("info", _info, "print lg_k, width, stage, estimate and more of each file", "hll info year.hll"),
-    ("estimate", _estimate, "print the estimated number of distinct values", "hll estimate *.hll"),
-    ("check", _check, "print the files that are not images, and why", "hll check days"),
-    ("fold", _fold, "make a sketch smaller", "hll fold a.hll --lg-k 10 -o b.hll"),
-    ("convert", _convert, "change the width of a sketch", "hll convert a.hll --width 4 -o b.hll"),
-    ("diff", _diff, "say whether two sketches agree, and where they differ", "hll diff a.hll b.hll"),
-    ("plot", _plot, "draw the registers next to the theory", "hll plot year.hll -o year.svg"),
     ("new", _new, "make an empty sketch", "hll new day.hll --lg-k 14"),
     ("add", _add, "add lines of standard input, each a value", "cut -f2 log | hll add day.hll"),
+    ("estimate", _estimate, "print the estimated number of distinct values", "hll estimate *.hll"),
+    ("merge", _merge, "merge any number of files", "hll merge days -o year.hll"),
+    ("info", _info, "print lg_k, width, stage, estimate and more of each file; compare two", "hll info year.hll"),
+    ("diff", _diff, "say whether two sketches agree, and where they differ", "hll diff a.hll b.hll"),
+    ("check", _check, "print the files that are not images, and why", "hll check days"),
+    ("fold", _fold, "reduce lg_k: fewer registers, and a larger error", "hll fold a.hll --lg-k 10 -o b.hll"),
+    ("convert", _convert, "change the width of a sketch", "hll convert a.hll --width 4 -o b.hll"),
+    ("plot", _plot, "draw how many registers have each value, as SVG or PNG", "hll plot year.hll -o year.svg"),
 )
 _MORE = {
     "merge": "Each rejected file is named, and then nothing is written, unless --skip-bad is given. "
     "Files of different lg_k are merged only with --lg-k. The width is that of the files, or 8 if "
     "they differ.",
-    "estimate": "With several files, the name of the file follows the numbers, and then the key of an "
-    "archive.",
+    "info": "Several files are printed as a table. With two files, it also says whether they agree, prints "
+    "the estimate of their union, and says why there is none of their intersection.",
+    "estimate": "Lines have columns between TABs. With several files, the name of the file follows the "
+    "numbers, and then the key of an archive.",
     "check": "Nothing is printed for a file that is a sketch. An image has no checksum, so a flipped "
     "bit can give another sketch, which is not noticed.",
     "fold": "The result is the sketch that the same values make with that lg_k.",
     "diff": "Exit status: 0 if they agree, once folded to the smaller lg_k; 1 if they differ; 2 for an error.",
+    "plot": "The picture is a histogram, with the shape that the theory expects for the estimate.",
     "new": "Add values to it with `hll add`.",
     "add": "A line counts as a text: its bytes without the LF, including a CR. An empty line is a "
     "text too. So 7 is a text and not the integer 7, unless --as int is given. If another process "
@@ -333,8 +347,6 @@ def _check_by_key(parser: argparse.ArgumentParser, options: argparse.Namespace) 
             parser.error(f"{name} and {which} don't go together")
     if options.archive == STANDARD:
         parser.error("an archive is a file, and can't be -")
-    if options.archive is not None and options.sorted:
-        parser.error("--sorted goes with --by-key")
     for name, default in _BY_KEY.items():
         if getattr(options, name) is None:
             setattr(options, name, default)
@@ -357,6 +369,8 @@ def _chosen(parser: argparse.ArgumentParser, arguments: Optional[List[str]]) -> 
         parser.error("--json and an image on standard output don't go together")
     if options.command == "add":
         _check_add(parser, options)
+    if getattr(options, "table", False) and options.json:
+        parser.error("--table and --json don't go together")
     if getattr(options, "null", False) and options.files_from is None:
         parser.error("-0 goes with --files-from")
     return options

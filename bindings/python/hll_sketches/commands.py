@@ -21,7 +21,8 @@ from .files import REFUSED, STANDARD, UNUSABLE, OutputTrouble, Trouble, bytes_of
 from .files import image_at, image_of_file, image_trouble, locked, of_bytes, of_file, write_file
 from .finding import Tell, found, names_in
 from .layout import STAGES, estimator_fields_of, flags_of, registers_of, size_of
-from .progress import Bar
+from .progress import Bar, InputBar
+from .tables import aligned
 
 if TYPE_CHECKING:
     from .archive import Archive
@@ -62,18 +63,26 @@ def finite(number: float) -> Optional[float]:
     return number if math.isfinite(number) else None
 
 
-def each(names: List[str], call: Callable[[str], None]) -> int:
-    """Calls ``call`` for each file, prints each error, and returns the worst status."""
+def each(names: List[str], call: Callable[[str], None], is_quiet: bool) -> int:
+    """Calls ``call`` for each file, prints each error, and returns the worst status. If nothing is printed to
+    a terminal meanwhile, it shows the progress."""
     worst = OK
-    for name in names:
-        try:
-            call(name)
-        except OutputTrouble:
-            raise
-        except Trouble as trouble:
-            say(trouble)
-            worst = max(worst, trouble.status)
+    with Bar("file", len(names), is_wanted=is_quiet) as bar:
+        for name in names:
+            try:
+                call(name)
+            except OutputTrouble:
+                raise
+            except Trouble as trouble:
+                say(trouble)
+                worst = max(worst, trouble.status)
+            bar.more(1)
     return worst
+
+
+def _is_seen() -> bool:
+    """Returns whether standard output is a terminal."""
+    return sys.stdout is not None and sys.stdout.isatty()
 
 
 # ---- what is written
@@ -169,51 +178,125 @@ def described(name: str, facts: Record) -> str:
     return "\n".join([f"{shown(name)}:", *(f"  {key:<9} {value}" for key, value in rows)])
 
 
+_COLUMNS = ("lg_k", "width", "stage", "fields", "estimate", "lower", "upper", "bytes", "file")
+_NUMBERS = ("lg_k", "width", "estimate", "lower", "upper", "bytes")
+
+
+def _row_of(facts: Record) -> List[str]:
+    """Returns the cells of an image in the table of ``info``."""
+    numbers = {key: rounded(facts[key]) for key in _NUMBERS}
+    texts = {"stage": facts["stage"], "file": shown(facts["file"]), "fields": facts.get("estimator_fields", "none")}
+    return [{**numbers, **texts}[key] for key in _COLUMNS]
+
+
+def _agreement(left: bytes, right: bytes) -> str:
+    """Returns words about whether two images agree."""
+    lg_k = min(left[3], right[3])
+    if _library.agree(left, right):
+        return f"yes, at lg_k {lg_k}"
+    return f"no, in {len(_differing(left, right, lg_k)):,} of {1 << lg_k:,} slots at lg_k {lg_k}"
+
+
+def _no_intersection(facts: List[Record]) -> str:
+    """Returns why two sketches and their union give no size of an intersection."""
+    if any(one["estimate"] is None for one in facts):
+        return "not estimated: an estimate is infinite"
+    one, two, both = (one["estimate"] for one in facts)
+    error = sum((one["upper"] - one["lower"]) / 2 for one in facts)
+    numbers = f"{rounded(one)} + {rounded(two)} - {rounded(both)} = {rounded(one + two - both)}"
+    return f"not estimated: {numbers} has the errors of three estimates, together {rounded(error)}"
+
+
+def _pair(images: List[bytes], records: List[Record], deviations: int) -> str:
+    """Returns lines about two images: whether they agree, their union, and why there is no intersection."""
+    union = _library.merge(max(image[3] for image in images), 8, *images)
+    facts = summary(union, deviations)
+    bounds = f"{rounded(facts['lower'])} to {rounded(facts['upper'])}, at {deviations} standard deviations"
+    rows = [
+        ("agree", _agreement(*images)),
+        ("union", f"{rounded(facts['estimate'])}, at lg_k {facts['lg_k']}"),
+        ("bounds", bounds),
+        ("intersection", _no_intersection([*records, facts])),
+    ]
+    return "\n".join(["both:", *(f"  {key:<12}  {value}" for key, value in rows)])
+
+
 def info(options: Namespace) -> int:
-    """Prints what images say of their sketches."""
+    """Prints what images say of their sketches: one in full, several in a table, and two also compared."""
     records: List[Record] = []
+    images: List[bytes] = []
+    are_two = len(options.files) == 2
 
     def one(name: str) -> None:
-        facts = of_file(name, lambda image: summary(image, options.deviations))
+        data = bytes_of_file(name)
+        facts = of_bytes(name, data, lambda image: summary(image, options.deviations))
         records.append({"file": name, **facts})
-        if not options.json:
-            put_line(described(name, facts))
+        if are_two and not options.json:
+            images.append(_library.convert(data, facts["width"]))
 
-    status = each(options.files, one)
+    status = each(options.files, one, True)
     if options.json:
         show(records)
+    elif len(options.files) == 1:
+        for facts in records:
+            put_line(described(facts["file"], facts))
+    elif records:
+        for line in aligned(_COLUMNS, list(map(_row_of, records)), _NUMBERS):
+            put_line(line)
+        if len(images) == 2:
+            put_line(f"\n{_pair(images, records, options.deviations)}")
     return status
+
+
+def _estimates_of(options: Namespace, name: str) -> Iterator[Record]:
+    """Yields the estimate of an image, or those of the images of an archive."""
+    from .archive import entries_of_file, is_archive, name_of_entry
+
+    def facts_of(image: bytes) -> Record:
+        facts = summary(image, options.deviations or 2)
+        return {key: facts[key] for key in ("estimate", "lower", "upper", "deviations")}
+
+    if not is_archive(name):
+        yield {"file": name, **of_file(name, facts_of)}
+        return
+    for key, image in entries_of_file(name):
+        facts = of_bytes(name_of_entry(name, key), image, facts_of)
+        yield {"file": name, "key": os.fsdecode(key), **facts}
+
+
+def _put_estimates(records: List[Record]) -> None:
+    """Prints a table of estimates."""
+    header = ["estimate", "lower", "upper", "file"]
+    if any("key" in record for record in records):
+        header.append("key")
+    numbers = header[:3]
+    rows = [
+        [*(rounded(one[key]) for key in numbers), *(shown(one[key]) if key in one else "" for key in header[3:])]
+        for one in records
+    ]
+    for line in aligned(header, rows, numbers):
+        put_line(line)
 
 
 def estimate(options: Namespace) -> int:
     """Prints the estimates of images, and of the images of archives."""
-    from .archive import entries_of_file, is_archive, name_of_entry
-
     records: List[Record] = []
-
-    def put_one(facts: Record, **named: str) -> None:
-        keys = ("estimate", "lower", "upper", "deviations")
-        records.append({**named, **{key: facts[key] for key in keys}})
-        if not options.json:
-            asked = keys[:1] if options.deviations is None else keys[:3]
-            numbers = [plain_number(facts[key]) for key in asked]
-            names = list(map(shown, named.values()))
-            put_line("\t".join([*numbers, *(names[1:] if len(options.files) == 1 else names)]))
-
-    def facts_of(image: bytes) -> Record:
-        return summary(image, options.deviations or 2)
+    asked = ["estimate"] if options.deviations is None else ["estimate", "lower", "upper"]
 
     def one(name: str) -> None:
-        if not is_archive(name):
-            put_one(of_file(name, facts_of), file=name)
-            return
-        for key, image in entries_of_file(name):
-            facts = of_bytes(name_of_entry(name, key), image, facts_of)
-            put_one(facts, file=name, key=os.fsdecode(key))
+        for record in _estimates_of(options, name):
+            if options.json or options.table:
+                records.append(record)
+                continue
+            numbers = [plain_number(record[key]) for key in asked]
+            names = [shown(record[key]) for key in ("file", "key") if key in record]
+            put_line("\t".join([*numbers, *(names[1:] if len(options.files) == 1 else names)]))
 
-    status = each(options.files, one)
+    status = each(options.files, one, options.json or options.table or not _is_seen())
     if options.json:
         show(records)
+    elif options.table and records:
+        _put_estimates(records)
     return status
 
 
@@ -243,7 +326,7 @@ def _faults_in(name: str) -> Iterator[Tuple[str, Trouble]]:
             status = _library.check(image)
             if status != _library.OK:
                 reason = _library.WORDS[status]
-                yield reason, image_trouble(which, reason)
+                yield reason, image_trouble(which, reason, image)
     except Trouble as trouble:
         if trouble.status != REFUSED:
             raise
@@ -260,7 +343,7 @@ def check(options: Namespace) -> int:
         troubles.append(trouble)
 
     with Bar("file") as bar:
-        for name in named_files(options, refuse):
+        for name in bar.counted(named_files(options, refuse)):
             checked += 1
             bar.more(1)
             try:
@@ -295,7 +378,7 @@ def merge(options: Namespace) -> int:
 
     with Bar("file") as bar:
         jobs = options.jobs or processors()
-        names = named_files(options, refuse)
+        names = bar.counted(named_files(options, refuse))
         answer = union_of_files(
             names, options.lg_k or 0, options.width, jobs, refuse, bar.more, say
         )
@@ -321,30 +404,32 @@ def _merge_by_key(options: Namespace) -> int:
 
     left_out: List[Trouble] = []
     names: List[str] = []
-    keys = 0
+    keys = entries = 0
 
     def refuse(trouble: Trouble) -> None:
         say(f"{trouble} (left out)" if options.skip_bad else trouble)
         left_out.append(trouble)
 
-    def written() -> Iterator[Tuple[bytes, bytes]]:
+    def written(more: Callable[[int], None]) -> Iterator[Tuple[bytes, bytes]]:
         nonlocal keys
-        merged = union_of_archives(names, options.lg_k or 0, options.width)
+        merged = union_of_archives(names, options.lg_k or 0, options.width, more)
         for keys, (key, image) in enumerate(merged, 1):
             yield key, finished(image, options.plain)
 
-    for name in named_files(options, refuse):
-        try:
-            for _ in entries_of_file(name):
-                pass
-            names.append(name)
-        except Trouble as trouble:
-            refuse(trouble)
+    with Bar("file") as bar:
+        for name in bar.counted(named_files(options, refuse)):
+            try:
+                entries += sum(1 for _ in entries_of_file(name))
+                names.append(name)
+            except Trouble as trouble:
+                refuse(trouble)
+            bar.more(1)
     if left_out and not options.skip_bad:
         return _worst(left_out, OK)
     if not names:
         raise Trouble("merge", "no archive is left to merge", _worst(left_out, UNUSABLE))
-    write_file(options.output, lambda: pieces(written()))
+    with Bar("image", entries) as bar:
+        write_file(options.output, lambda: pieces(written(bar.more)))
     if options.json:
         facts = {"keys": keys, "merged": len(names), "left_out": _skipped(left_out)}
         show({"output": options.output, **facts})
@@ -431,7 +516,7 @@ def _standard_input(longest: int) -> Iterator[BinaryIO]:
 def _lines_of_input(lg_k: int, are_ints: bool, longest: int) -> Lines:
     """Returns a sketch of the lines of standard input."""
     lines = Lines(_library.new(lg_k, 8), are_ints, longest)
-    with _standard_input(longest) as stream, Bar("line") as bar:
+    with _standard_input(longest) as stream, InputBar() as bar:
         lines.add(stream, bar.more)
     return lines
 
@@ -473,25 +558,25 @@ def _store_of(options: Namespace) -> Union[Directory, Archive]:
 def _count_by_key(
     options: Namespace, counters: Counters, store: Union[Directory, Archive]
 ) -> None:
-    """Counts the values of standard input. If lines are sorted by key, this writes the file of each key but
-    the last one, once lines of another key follow."""
+    """Counts the values of standard input. If lines are sorted by key, this moves each key but the last one
+    out of memory, once lines of another key follow."""
     from .by_key import FullError
     from .rows import RowError
 
     try:
-        with _standard_input(options.longest_line) as stream, Bar("line") as bar:
+        with _standard_input(options.longest_line) as stream, InputBar() as bar:
             for batch in options.layout.batches(stream, options.longest_line):
                 counters.add(batch)
                 if options.sorted and batch.pairs:
                     last = batch.pairs[-1][0]
-                    store.write_all(counters, [key for key in counters.images if key != last])
+                    store.flush(counters, [key for key in counters.images if key != last])
                 bar.more(len(batch.pairs))
     except RowError as error:
         raise Trouble("standard input", f"line {error.number:,} {error.words}") from None
     except FullError as error:
         words = f"after line {error.number:,} the sketches of {error.keys:,} keys need more than " \
             f"{options.memory:,} bytes"
-        cure = "" if options.sorted else ", and --by-key with --sorted needs one sketch at a time"
+        cure = "" if options.sorted else ", and --sorted needs one sketch at a time"
         raise Trouble("standard input", f"{words} (--memory allows more{cure})") from None
 
 
@@ -532,10 +617,17 @@ def diff(options: Namespace) -> int:
 
 def plot(options: Namespace) -> int:
     """Draws the histogram of the registers, with the histogram that the estimate predicts."""
-    from .plot import histogram_svg
+    from .plot import histogram_svg, png_of
 
+    check_output(options.output, options.force)
     image = image_of_file(options.file)
     name = "standard input" if options.file == STANDARD else os.path.basename(options.file)
-    check_output(options.output, options.force)
-    write_file(options.output, histogram_svg(image, options.title or name).encode("utf-8"))
+    data = histogram_svg(image, options.title or name).encode("utf-8")
+    if options.output.lower().endswith(".png"):
+        try:
+            data = png_of(data)
+        except (ImportError, OSError) as error:     # cairosvg, or the library that it loads
+            words = f"a PNG needs the Python package cairosvg, in Debian python3-cairosvg ({error}): write an SVG"
+            raise Trouble(options.output, words, UNUSABLE) from None
+    write_file(options.output, data)
     return OK

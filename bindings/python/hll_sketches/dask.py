@@ -29,21 +29,25 @@ from __future__ import annotations
 import errno
 import os
 import sys
+from contextlib import nullcontext
 from functools import partial
-from typing import Any, Callable, Dict, Hashable, Iterable, Iterator, List, NamedTuple, Optional
+from typing import Any, Callable, ContextManager, Dict, Hashable, Iterable, Iterator, List, NamedTuple, Optional
 from typing import Sequence, Tuple, Union as Either, cast
 
 import fsspec
 from dask.delayed import delayed
 
 from ._errors import ArgumentError, ImageError, PrecisionError
+from ._series import shown_key
 from .files import read_image, read_path
+from .progress import DELAY, is_terminal
 from .sketch import Sketch, checked_lg_k, checked_width, fault_of
 from .union import Source, checked_bounds, merged, union_of
 
 __all__ = [
     "LeftOut",
     "PlacedImageError",
+    "progress",
     "sketch_aggregation",
     "union_aggregation",
     "union_by_key",
@@ -74,7 +78,7 @@ class PlacedImageError(ImageError):
     number : int
         The index of the file among the paths, or of the row or item in its partition.
     place : str
-        The path of the file, or the numbers of the partition and the row.
+        The path of the file, or the key of the group, and the row.
     """
 
     def __init__(self, reason: str, number: Optional[int], place: str) -> None:
@@ -214,10 +218,9 @@ def _union_by_key(frame: Any, key: Key, image: str, partition: int, bounds: _Bou
     unions: Dict[Hashable, bytes] = {}
     refused: Refused = []
     for one, of_key in rows.items():
+        where = f"key {shown_key(one)}, partition {partition}"
         union, left_out = _placed(
-            [images[n] for n in of_key],
-            bounds,
-            lambda n: (of_key[n], f"partition {partition}, row {of_key[n]}"),
+            [images[n] for n in of_key], bounds, lambda n: (of_key[n], f"{where}, row {of_key[n]}")
         )
         if union is not None:
             unions[one] = union
@@ -238,11 +241,11 @@ def _images_of(parts: List[Part]) -> Iterator[bytes]:
     return (image for image, _ in parts if image is not None)
 
 
-def _merged(parts: List[Part], bounds: _Bounds) -> Part:
+def _merged(parts: List[Part], bounds: _Bounds, what: str = "a part of the sketches") -> Part:
     try:
         return merged(_images_of(parts), bounds.lg_max_k), _all_refused(parts)
     except PrecisionError as error:
-        raise error.at(None, "a part of the sketches") from None
+        raise error.at(None, what) from None
 
 
 def _sketch_of(parts: List[Part], bounds: _Bounds) -> Any:
@@ -266,7 +269,7 @@ def _merged_by_key(parts: List[Parts], bounds: _Bounds) -> Parts:
         try:
             merged_parts[key] = cast(bytes, merged(images, bounds.lg_max_k))
         except PrecisionError as error:
-            raise error.at(None, f"a sketch of the key {key!r}") from None
+            raise error.at(None, f"a sketch of the key {shown_key(key)}") from None
     return merged_parts, _all_refused(parts)
 
 
@@ -447,7 +450,7 @@ def union_by_key(
     dask.delayed.Delayed
         Computes to a ``pandas.Series`` of images as bytes, with the sorted keys as its index, or to
         ``LeftOut``. ``compute`` raises ``PlacedImageError`` if a row's bytes are not an image:
-        ``place`` has the numbers of the partition and of the row in it.
+        ``place`` has the key, and the numbers of the partition and of the row in it.
     """
     bounds = _bounds(lg_max_k, width, on_error)
     union = delayed(partial(_union_by_key, key=key, image=image, bounds=bounds), pure=False)
@@ -458,6 +461,28 @@ def union_by_key(
         partial(_series_of, bounds=bounds, key=key, image=image),
         split_every,
     )
+
+
+# ---- progress
+
+
+def progress() -> ContextManager[Any]:
+    """Return a context in which ``compute()`` shows how many of its tasks are done, after a second.
+
+        with progress():
+            union_of_files("days/*.hll").compute(scheduler="processes")
+
+    It shows nothing if ``tqdm`` isn't installed, or standard error isn't a terminal. On the cluster of a
+    ``distributed.Client``, use ``distributed.progress(client.compute(union))``.
+    """
+    if not is_terminal():
+        return nullcontext()
+    try:
+        from tqdm.dask import TqdmCallback
+    except ImportError:
+        return nullcontext()
+    made: ContextManager[Any] = TqdmCallback(unit="task", leave=False, delay=DELAY, file=sys.stderr)
+    return made
 
 
 # ---- aggregations
@@ -481,10 +506,17 @@ def _of_group(column: Any, image_of: Callable[[Any], Optional[bytes]]) -> Option
         return None
     try:
         return image_of(values)
-    except TypeError:
+    except TypeError as error:
         if _is_planning():
             return None     # of made-up rows; an error in real rows is raised by the task that has them
-        raise
+        raise TypeError(f"{_group_of(column)}: {error}") from None
+    except OverflowError as error:
+        raise OverflowError(f"{_group_of(column)}: {error}") from None
+
+
+def _group_of(column: Any) -> str:
+    """Returns the key of a group for an error. In ``apply``, pandas has it as the name of the column."""
+    return f"key {shown_key(column.name)}"
 
 
 def _each(grouped: Any, image_of: Callable[[Any], Optional[bytes]]) -> Any:
@@ -499,14 +531,19 @@ def _image_of_values(column: Any, lg_k: int, width: int) -> bytes:
 
 
 def _image_of_images(column: Any, bounds: _Bounds) -> Optional[bytes]:
-    """Returns the union of a group. Errors have the label of the row."""
-    labels = column.index
-    return _placed(list(column), bounds, lambda number: (number, f"row {labels[number]}"))[0]
+    """Returns the union of a group. Errors have its key and the label of the row."""
+    labels, key = column.index, _group_of(column)
+
+    def place_of(number: int) -> Tuple[int, str]:
+        return number, f"{key}, row {shown_key(labels[number])}"
+
+    return _placed(list(column), bounds, place_of)[0]
 
 
 def _union_of_images(column: Any, bounds: _Bounds) -> Optional[bytes]:
     """Returns the union of the images that were made of parts of a group."""
-    return _merged([(image, []) for image in column], bounds)[0]
+    parts: List[Part] = [(image, []) for image in column]
+    return _merged(parts, bounds, f"a part of {_group_of(column)}")[0]
 
 
 def _at_width(image: Any, bounds: _Bounds) -> Any:
@@ -546,7 +583,8 @@ def sketch_aggregation(lg_k: int = 12, width: int = 8, *, name: Optional[str] = 
     -------
     dask.dataframe.Aggregation
         Its result is an image, as bytes, for each group, or None for a group that has only missing
-        values. Values count as for ``Sketch.update_many``; missing values are skipped.
+        values. Values count as for ``Sketch.update_many``; missing values are skipped. An error has the
+        key of the group.
     """
     lg_k, width = checked_lg_k(lg_k), checked_width(width)
     of_column = partial(_image_of_values, lg_k=lg_k, width=width)
@@ -574,7 +612,8 @@ def union_aggregation(
     -------
     dask.dataframe.Aggregation
         Its result is an image, as bytes, for each group, or None for a group without images. It
-        raises ``PlacedImageError`` if a row's bytes are not an image: ``place`` has the row's label.
+        raises ``PlacedImageError`` if a row's bytes are not an image: ``place`` has the key of the group and
+        the row's label.
     """
     bounds = _bounds(lg_max_k, width)
     given = [str(number) for number in (lg_max_k, width) if number is not None]

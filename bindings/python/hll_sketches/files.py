@@ -2,15 +2,18 @@
 """Reading and writing files of images."""
 from __future__ import annotations
 
+import ctypes
 import errno
 import fcntl
 import os
+import re
 import stat
 import sys
 import time
-from contextlib import contextmanager, suppress
+from codecs import getincrementaldecoder
+from contextlib import ExitStack, closing, contextmanager, suppress
 from functools import partial
-from typing import Callable, Iterable, Iterator, List, Optional, TypeVar, Union
+from typing import Callable, Iterable, Iterator, List, NamedTuple, Optional, Sequence, TypeVar, Union
 
 from . import _library
 from ._errors import ImageError, explained
@@ -80,9 +83,35 @@ def unusable(name: str, error: OSError) -> Trouble:
     return Trouble(name, words, UNUSABLE)
 
 
-def image_trouble(name: str, reason: str) -> Trouble:
-    """Returns the error of a file that is not an image."""
-    return Trouble(name, f"image {explained(reason)}")
+_HEXADECIMAL = re.compile(b"(?:02|03|0[aA])0107[0-9a-fA-F]*")
+"""How the hexadecimal digits of an image begin, as ``hll_merge`` prints them."""
+
+
+def _is_text(data: bytes) -> bool:
+    """Returns whether bytes begin as a text does. The third byte of an image is 7, which no text has."""
+    try:
+        begin = getincrementaldecoder("utf-8")().decode(data[:1024])
+    except UnicodeDecodeError:
+        return False
+    return all(letter.isprintable() or letter in "\t\n\f\r" for letter in begin)
+
+
+def _why_no_image(reason: str, data: bytes) -> str:
+    """Returns why bytes are not an image: what else they are, or the check of images that they fail."""
+    if not data:
+        return "it is empty"
+    if _HEXADECIMAL.match(data):
+        return "it is text, the hexadecimal digits of an image (xxd -r -p makes bytes of them)"
+    if _is_text(data):
+        return "it is text, and not an image"
+    if data[2:3] not in (b"", b"\x07"):
+        return f"not an image (the family byte is {data[2]}, and not 7)"
+    return f"image {explained(reason)}"
+
+
+def image_trouble(name: str, reason: str, data: bytes) -> Trouble:
+    """Returns the error of a file whose bytes are not an image."""
+    return Trouble(name, _why_no_image(reason, data))
 
 
 @contextmanager
@@ -231,7 +260,7 @@ def of_bytes(name: str, data: bytes, call: Callable[[bytes], T]) -> T:
     except ImageError as error:
         if data.startswith(ARCHIVE):
             raise Trouble(name, "an archive, and not an image (estimate, merge and check read archives)") from None
-        raise image_trouble(name, error.reason) from None
+        raise image_trouble(name, error.reason, data) from None
 
 
 def image_of_file(name: str) -> bytes:
@@ -265,6 +294,9 @@ def image_at(name: str, lg_k: int) -> bytes:
 _NO_LINKS = (errno.EPERM, errno.ENOSYS, errno.ENOTSUP, errno.EOPNOTSUPP)
 """The errors of a file system that has no hard links."""
 
+
+NOTHING, CONTENTS, ALL = range(3)
+"""What is synced to disk when a file is written: nothing, its bytes before it gets its name, or its name as well."""
 
 Data = Union[bytes, Callable[[], Iterable[bytes]]]
 """What is written: bytes, or a call that returns them in pieces, which may be called again."""
@@ -347,12 +379,13 @@ def _keep_owner_and_mode(place: int, before: os.stat_result) -> None:
     os.fchmod(place, stat.S_IMODE(before.st_mode) & ~(stat.S_ISUID | stat.S_ISGID))
 
 
-def _fill(place: int, data: Data, before: Optional[os.stat_result]) -> None:
-    """Writes a file and syncs it to disk."""
+def _fill(place: int, data: Data, before: Optional[os.stat_result], sync: int) -> None:
+    """Writes a file, and syncs its bytes to disk if that is asked for."""
     if before is not None:
         _keep_owner_and_mode(place, before)
     _write_all(place, data)
-    os.fsync(place)
+    if sync != NOTHING:
+        os.fsync(place)
 
 
 @contextmanager
@@ -400,7 +433,7 @@ Rename = Callable[[str, str], None]
 
 
 def _replace_by_link(
-    path: str, data: Data, before: Optional[os.stat_result], rename: Rename
+    path: str, data: Data, before: Optional[os.stat_result], rename: Rename, sync: int
 ) -> bool:
     """Writes a file that has no name until it is complete, so no incomplete file is left. Returns False
     if the system can't do this."""
@@ -409,7 +442,7 @@ def _replace_by_link(
     except (OSError, AttributeError):
         return False
     try:
-        _fill(place, data, before)
+        _fill(place, data, before, sync)
         with _temporary(path) as temporary:
             if not _named(place, temporary):
                 return False
@@ -420,13 +453,13 @@ def _replace_by_link(
 
 
 def _replace_by_name(
-    path: str, data: Data, before: Optional[os.stat_result], rename: Rename
+    path: str, data: Data, before: Optional[os.stat_result], rename: Rename, sync: int
 ) -> None:
     """Writes a file under another name first. Signals are delayed until it is written."""
     with _temporary(path) as temporary:
         place = os.open(temporary, os.O_WRONLY | os.O_CREAT | os.O_EXCL | os.O_CLOEXEC, 0o666)
         try:
-            _fill(place, data, before)
+            _fill(place, data, before, sync)
         finally:
             os.close(place)
         rename(temporary, path)
@@ -448,11 +481,16 @@ def sync_folder(folder: str) -> None:
 
 
 def _replace(
-    path: str, data: Data, before: Optional[os.stat_result], rename: Rename = _rename_over
+    path: str,
+    data: Data,
+    before: Optional[os.stat_result],
+    rename: Rename = _rename_over,
+    sync: int = CONTENTS,
 ) -> None:
-    """Replaces the file at a path, once the new file is complete and on disk. The name is not on disk yet."""
-    if not _replace_by_link(path, data, before, rename):
-        _replace_by_name(path, data, before, rename)
+    """Replaces the file at a path, once the new file is complete, and on disk unless nothing is synced. The
+    name is not on disk yet."""
+    if not _replace_by_link(path, data, before, rename, sync):
+        _replace_by_name(path, data, before, rename, sync)
 
 
 def _write_into(path: str, data: Data) -> None:
@@ -466,10 +504,11 @@ def _write_into(path: str, data: Data) -> None:
         os.close(place)
 
 
-def write_path(name: str, data: Data, sync_names: bool = True) -> None:
+def write_path(name: str, data: Data, sync: int = ALL) -> None:
     """Writes a whole file, or leaves it unchanged. The file keeps its owner and its mode.
 
-    Without ``sync_names``, the caller has to call ``sync_folder`` for the folder of the file.
+    With ``CONTENTS``, the caller has to call ``sync_folder`` for the folder of the file. With ``NOTHING``,
+    the file can be empty or incomplete after a crash of the system.
 
     Raises
     ------
@@ -480,15 +519,15 @@ def write_path(name: str, data: Data, sync_names: bool = True) -> None:
         path = target_of(name)
         before = _status_of(name)
         if before is None or stat.S_ISREG(before.st_mode):
-            _replace(path, data, before)
-            if sync_names:
+            _replace(path, data, before, sync=sync)
+            if sync == ALL:
                 sync_folder(os.path.dirname(path))
         else:
             _write_into(name, data)
 
 
 @contextmanager
-def _reported_of(name: str) -> Iterator[None]:
+def reported_of(name: str) -> Iterator[None]:
     """Turns errors of the system into the error of a file."""
     try:
         yield
@@ -498,7 +537,7 @@ def _reported_of(name: str) -> Iterator[None]:
         raise Trouble(name, "no name of a file", UNUSABLE) from None
 
 
-def write_file(name: str, data: Data, sync_names: bool = True) -> None:
+def write_file(name: str, data: Data, sync: int = ALL) -> None:
     """Does what ``write_path`` does; ``-`` is standard output.
 
     Raises
@@ -509,8 +548,8 @@ def write_file(name: str, data: Data, sync_names: bool = True) -> None:
     if name == STANDARD:
         _write_standard(data)
         return
-    with _reported_of(name):
-        write_path(name, data, sync_names)
+    with reported_of(name):
+        write_path(name, data, sync)
 
 
 def create_file(name: str, data: Data) -> bool:
@@ -526,13 +565,133 @@ def create_file(name: str, data: Data) -> bool:
     Trouble
         If it can't be written.
     """
-    with _reported_of(name):
+    with reported_of(name):
         try:
             with _named_in_errors(name):
                 _replace(target_of(name), data, None, _rename_new)
         except FileExistsError:
             return False
     return True
+
+
+# ---- several files
+
+
+MANY = 8
+"""From this number on, files that are written together are synced with their file system."""
+
+
+class Item(NamedTuple):
+    """A file that is written with others: its name, its bytes, and whether no file may have the name."""
+
+    name: str
+    data: bytes
+    is_new: bool
+
+
+class _Unnamed:
+    """A file of a folder that is complete and has no name yet. It is gone when it is closed without a name.
+
+    Attributes
+    ----------
+    place : int
+        Its descriptor.
+
+    Raises
+    ------
+    OSError
+        If the system can't do this, or has no room.
+    """
+
+    def __init__(self, item: Item) -> None:
+        self._rename = _rename_new if item.is_new else _rename_over
+        self._path = target_of(item.name)
+        before = None if item.is_new else _status_of(item.name)
+        place = os.open(os.path.dirname(self._path), os.O_WRONLY | os.O_TMPFILE | os.O_CLOEXEC, 0o666)
+        try:
+            _fill(place, item.data, before, NOTHING)
+        except BaseException:
+            os.close(place)
+            raise
+        self.place = place
+
+    def give_name(self) -> Optional[bool]:
+        """Gives the file its name. Returns False if it is new, and another file has the name; None if the
+        system can't name it."""
+        with _temporary(self._path) as temporary:
+            if not _named(self.place, temporary):
+                return None
+            try:
+                self._rename(temporary, self._path)
+            except FileExistsError:
+                return False
+        return True
+
+    def close(self) -> None:
+        os.close(self.place)
+
+
+def _sync_file_system(place: int) -> bool:
+    """Waits until all of a file's file system is on disk. Returns False if the system can't do that, or doesn't
+    report an error of the disk then, as Linux before 5.8.
+
+    Raises
+    ------
+    OSError
+        If the disk has an error.
+    """
+    release = [int(number) for number in re.findall("[0-9]+", os.uname().release)[:2]]
+    call = getattr(ctypes.CDLL(None, use_errno=True), "syncfs", None)
+    if call is None or sys.platform != "linux" or release < [5, 8]:
+        return False
+    if call(place) != 0:
+        number = ctypes.get_errno()
+        raise OSError(number, os.strerror(number))
+    return True
+
+
+def _sync_together(items: Sequence[Item], unnamed: Sequence[_Unnamed]) -> None:
+    """Waits until files are on disk. Many are synced with their whole file system, which takes about as long as
+    one of them."""
+    if len(items) >= MANY:
+        with reported_of(os.path.dirname(items[0].name)):
+            if _sync_file_system(unnamed[0].place):
+                return
+    for item, one in zip(items, unnamed):
+        with reported_of(item.name):
+            os.fsync(one.place)
+
+
+def _write_one(item: Item) -> bool:
+    """Writes a file alone. Returns False if it is new, and another file has the name."""
+    if item.is_new:
+        return create_file(item.name, item.data)
+    write_file(item.name, item.data, CONTENTS)
+    return True
+
+
+def write_together(items: Sequence[Item]) -> Iterator[bool]:
+    """Writes whole files of one folder, and yields for each whether it is written: a new file isn't if another
+    file has its name. All are on disk before the first gets its name, so a disk syncs them together. Their names
+    are not on disk until ``sync_folder`` is called.
+
+    Raises
+    ------
+    Trouble
+        If a file can't be written.
+    """
+    with ExitStack() as open_files:
+        try:
+            unnamed = [open_files.enter_context(closing(_Unnamed(item))) for item in items]
+        except (OSError, AttributeError):       # one at a time needs less, and names the file in errors
+            open_files.close()
+            yield from map(_write_one, items)
+            return
+        _sync_together(items, unnamed)
+        for item, one in zip(items, unnamed):
+            with reported_of(item.name):
+                is_named = one.give_name()
+            yield _write_one(item) if is_named is None else is_named
 
 
 def _check_kept(name: str, before: os.stat_result) -> None:
@@ -554,7 +713,7 @@ def check_output(name: str, force: bool = False) -> None:
     """
     if name == STANDARD:
         return
-    with _reported_of(name):
+    with reported_of(name):
         path = target_of(name)
         before = _status_of(name)
         if before is not None and stat.S_ISDIR(before.st_mode):
@@ -614,10 +773,10 @@ def locked(name: str, still_waiting: Optional[Callable[[str], None]] = None) -> 
         If the file can't be opened, its file system has no locks, or ``still_waiting`` isn't given and
         the file has been locked by others for ``PATIENCE`` seconds.
     """
-    with _reported_of(name):
+    with reported_of(name):
         place = opened(name, os.O_RDONLY)
     try:
-        with _reported_of(name):
+        with reported_of(name):
             _lock(place, name, still_waiting)
             while not _is_named(place, name):
                 other = opened(name, os.O_RDONLY)

@@ -25,6 +25,7 @@ from .archive import MAGIC, entries_of_file, name_of_entry
 from .files import STANDARD, UNUSABLE, Trouble, bytes_of_file, image_trouble
 from .finding import found
 from .layout import holds_values
+from .progress import Bar
 from .sketch import Sketch
 from .union import checked_bounds
 
@@ -129,7 +130,7 @@ class _Files:
             self.state.join_all(images)
         except ImageError as error:
             number = error.number or 0
-            self.troubles.append(image_trouble(names[number], error.reason))
+            self.troubles.append(image_trouble(names[number], error.reason, images[number]))
             self._see(names[:number], images[:number])
             return number + 1
         except PrecisionError as error:
@@ -277,7 +278,8 @@ def merge_files(
 ) -> Sketch:
     """Return the union of the sketches in files, as the command ``hll merge`` does.
 
-    Files are read in batches of a quarter of a megabyte, or of one image if it is larger.
+    Files are read in batches of a quarter of a megabyte, or of one image if it is larger. If ``tqdm`` is
+    installed and standard error is a terminal, it shows the progress after a second.
 
     Parameters
     ----------
@@ -317,7 +319,8 @@ def merge_files(
 
     names = found(_names_of(paths), refuse, _pass_over)
     try:
-        merged = union_of_files(names, bound, width, index(jobs), refuse)
+        with Bar("file", needs_tqdm=True) as bar:
+            merged = union_of_files(bar.counted(names), bound, width, index(jobs), refuse, bar.more)
     except OtherLgK as trouble:
         raise trouble.error from None
     except Trouble as trouble:

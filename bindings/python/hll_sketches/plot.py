@@ -1,5 +1,5 @@
 # SPDX-License-Identifier: Apache-2.0
-"""An SVG picture of the registers of a sketch, compared with the theory for its estimate.
+"""A picture of the registers of a sketch, compared with the theory for its estimate, as SVG or PNG.
 
 Each of n values goes to one of m registers, and has a rank above v with probability 2^-v. So a
 register is v or less with probability (1 - 2^-v / m)^n.
@@ -175,3 +175,17 @@ def histogram_svg(image: bytes, title: str) -> str:
     parts = [words(LEFT, 28, heading, "title"), *_legend()]
     parts += [*chart.grid(), *chart.bars(), *chart.dots()]
     return document(WIDTH, HEIGHT, STYLE, heading, parts)
+
+
+def png_of(svg: bytes) -> bytes:
+    """Returns a picture as PNG, of two pixels a point.
+
+    Raises
+    ------
+    ImportError, OSError
+        If the package ``cairosvg`` or its library is not here.
+    """
+    from cairosvg import svg2png
+
+    made: bytes = svg2png(bytestring=svg, scale=2)
+    return made

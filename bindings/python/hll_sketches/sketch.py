@@ -227,11 +227,20 @@ class Sketch:
         except ImageError as error:
             raise error.at(None, os.fsdecode(name)) from None
 
-    def write(self, path: Union[str, "os.PathLike[str]"]) -> None:
+    def write(self, path: Union[str, "os.PathLike[str]"], *, sync: bool = True) -> None:
         """Write the image to a file, and sync the file to disk.
 
         The file has the bytes of ``to_bytes``. At each moment it is either the old file or the
         complete new file.
+
+        Parameters
+        ----------
+        path : str or path
+            The file.
+        sync : bool
+            Whether to wait until the file and its name are on disk. A disk takes up to 10 ms for this,
+            and the rest of the call takes 0.1 ms. If false, the file can be empty or incomplete after a
+            crash of the system. To write many files, pass false, and call ``os.sync()`` once at the end.
 
         Raises
         ------
@@ -239,9 +248,9 @@ class Sketch:
             If the file can't be written. Then the old file is unchanged, with one exception: if only
             the last sync fails, the new file is complete, but its name may not be on disk yet.
         """
-        from .files import write_path
+        from .files import ALL, NOTHING, write_path
 
-        write_path(os.fspath(path), self.to_bytes())
+        write_path(os.fspath(path), self.to_bytes(), ALL if sync else NOTHING)
 
     @staticmethod
     def max_bytes(lg_k: int = 12, width: int = 8) -> int:

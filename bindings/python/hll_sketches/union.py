@@ -4,10 +4,13 @@ from __future__ import annotations
 
 from typing import Any, Iterable, Iterator, Optional, Tuple, Type, TypeVar, Union
 
+from ._errors import ImageError, PrecisionError
+from ._library import Estimation
 from ._locks import Lock
+from ._series import is_of_pandas, place_in
 from ._state import State
 from ._values import Value
-from .sketch import Buffer, Sketch, checked_lg_k, checked_width, image_in
+from .sketch import Buffer, Sketch, checked_deviations, checked_lg_k, checked_width, image_in
 
 _U = TypeVar("_U", bound="SketchUnion")
 
@@ -26,6 +29,28 @@ def _images(sources: Iterable[Source]) -> Iterator[bytes]:
         name = type(sources).__name__
         raise TypeError(f"expected many sketches, not one {name}: pass a list of it")
     return (one if type(one) is bytes else image_in(one) for one in sources)
+
+
+def _joined(state: State, sources: Iterable[Source]) -> None:
+    """Merges sketches. Errors name the row of a column of pandas."""
+    try:
+        state.join_stream(_images(sources))
+    except (ImageError, PrecisionError) as error:
+        raise error.at(error.number, place_in(sources, error.number or 0)) from None
+    except TypeError as error:
+        place = _place_of_no_image(sources)
+        raise error if place is None else TypeError(f"{place}: {error}") from None
+
+
+def _place_of_no_image(sources: Iterable[Source]) -> Optional[str]:
+    """Returns where a Series has the first item that shares no bytes, such as a missing value."""
+    if is_of_pandas(sources):
+        for number, one in enumerate(sources):
+            try:
+                image_in(one)
+            except TypeError:
+                return place_in(sources, number)
+    return None
 
 
 class SketchUnion:
@@ -91,10 +116,11 @@ class SketchUnion:
         ------
         ImageError, PrecisionError
             As by ``update``. Then nothing has changed. ``number`` is the index of the sketch. It is
-            None if all these sketches have the same ``lg_k``, and the union has another.
+            None if all these sketches have the same ``lg_k``, and the union has another. ``place`` is as
+            for ``union_of``.
         """
         taken = State(self._state.lg_max_k)
-        taken.join_stream(_images(sketches))
+        _joined(taken, sketches)
         if taken.count:
             self.update(taken.image())
 
@@ -128,15 +154,18 @@ class SketchUnion:
     @property
     def is_empty(self) -> bool:
         """Whether no value was counted."""
-        return self.sketch().is_empty
+        with self._lock:
+            return self._state.is_empty
 
     def estimate(self) -> float:
         """Return an estimate of how many distinct values were counted."""
-        return self.sketch().estimate()
+        return self._estimation().estimate
 
     def bounds(self, deviations: int = 2) -> Tuple[float, float]:
         """Return a lower and an upper bound of the number of values, as ``Sketch.bounds`` does."""
-        return self.sketch().bounds(deviations)
+        number = checked_deviations(deviations) - 1
+        found = self._estimation()
+        return found.lower[number], found.upper[number]
 
     def lower_bound(self, deviations: int = 2) -> float:
         """Return the lower bound of ``bounds``."""
@@ -148,7 +177,11 @@ class SketchUnion:
 
     def relative_standard_error(self) -> float:
         """Return the standard deviation of the estimate, as a fraction of the number of values."""
-        return self.sketch().relative_standard_error()
+        return self._estimation().relative_standard_error
+
+    def _estimation(self) -> Estimation:
+        with self._lock:
+            return self._state.estimation()
 
     def to_bytes(self) -> bytes:
         """Return the image of the union so far."""
@@ -168,7 +201,7 @@ class SketchUnion:
         """Return an independent copy."""
         made = type(self)(self.lg_max_k, self._width)
         with self._lock:
-            made._state = self._state.copy()
+            made._state.become(self._state)
         return made
 
     def __copy__(self: _U) -> _U:
@@ -217,7 +250,8 @@ def union_of(
     Parameters
     ----------
     sketches : iterable
-        ``Sketch`` objects, or images as bytes.
+        ``Sketch`` objects, or images as bytes. It may be a Series of pandas, also in
+        ``frame.groupby(key)[image].apply(union_of)``.
     lg_max_k : int, optional
         The bound of the union's ``lg_k``, 4 to 21. The union has this ``lg_k``. But if a sketch with
         registers that are not all 0 has a smaller ``lg_k``, the union has the smallest such ``lg_k``.
@@ -228,14 +262,15 @@ def union_of(
     Raises
     ------
     ImageError
-        If bytes are not an image. ``number`` is the index of the image.
+        If bytes are not an image. ``number`` is the index of the image. In a Series ``place`` has the
+        label of the row, after the name of the Series. In ``apply`` this name is the key of the group.
     PrecisionError
         If a sketch has another ``lg_k`` than the sketches before it, and no ``lg_max_k`` was given.
-        ``number`` is the index of the sketch.
+        ``number`` is the index of the sketch, and ``place`` is as for ``ImageError``.
     ArgumentError
         If ``lg_max_k`` or ``width`` is out of range.
     """
     bound, width = checked_bounds(lg_max_k, width)
     state = State(bound)
-    state.join_stream(_images(sketches))
+    _joined(state, sketches)
     return Sketch._of(state.image(width))

@@ -13,6 +13,9 @@ import common
 
 COMMAND = [sys.executable, "-m", "hll_sketches"]
 TRUNCATED = "image truncated (the bytes end inside what the header asks for)"
+CUT = b"\2\1"
+"""The first bytes of an image, which is rejected as truncated."""
+TEXT = "it is text, and not an image"
 
 
 def environment(**more):

@@ -673,15 +673,7 @@ class ErrorsTest(unittest.TestCase):
         self.assertEqual(sketch.num_coupons, 2)
         large = Sketch()
         large.update_many(range(9999))
-        with mock.patch.object(_library, "copied", side_effect=MemoryError):
-            for call in (
-                union.copy,
-                lambda: union.update(large),
-                lambda: union.update_many([sketch, large]),
-            ):
-                with self.assertRaises(MemoryError):
-                    call()
-        with mock.patch.object(_library, "image_of_state", side_effect=MemoryError):
+        with mock.patch.object(_library, "image_of_counter", side_effect=MemoryError):
             with self.assertRaises(MemoryError):
                 union.sketch()
         self.assertEqual(union.sketch().num_coupons, 1)

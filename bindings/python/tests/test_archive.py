@@ -9,11 +9,13 @@ import re
 import stat
 import subprocess
 import unittest
+from contextlib import redirect_stderr
+from unittest import mock
 from zlib import crc32
 
 import common  # noqa: F401, for the path
 from command import COMMAND, CommandTest, environment
-from hll_sketches import ArchiveError, ArgumentError, ImageError, Sketch, archive
+from hll_sketches import ArchiveError, ArgumentError, ImageError, Sketch, archive, cli, rows
 from hll_sketches import read_archive, write_archive
 
 WRONG = "archive rejected at"
@@ -186,7 +188,7 @@ class AddTest(CommandTest):
         for key in bad:
             status, out, err = self.run_hll("add", "--archive", "a.keys", given=b"b\tx\n%s\ty\n" % key)
             self.assertEqual((status, out), (1, b""))
-            self.assertRegex(err, rf"\Ahll: a\.keys, key {key.decode()}: image .*\n\Z")
+            self.assertRegex(err, rf"\Ahll: a\.keys, key {key.decode()}: (image .*|it is empty)\n\Z")
             self.assertEqual(self.kept(), {**bad, b"a": image_of(["x"])})
 
     def test_at_once(self):
@@ -204,10 +206,54 @@ class AddTest(CommandTest):
             b"%d" % key: image_of(map(str, range(key, 6000, 20))) for key in range(20)})
         self.assertEqual(self.listed(), ["a.keys"])
 
+    def sorted_in(self, room, given, *words):
+        """The status and the errors of the command in this process, which reads blocks of some bytes."""
+        path, errors = self.write("given", given), io.StringIO()
+        with mock.patch.object(rows, "BLOCK", room), redirect_stderr(errors), \
+                mock.patch.object(os, "dup", lambda _: os.open(path, os.O_RDONLY)):
+            status = cli._run(["add", "--archive", str(self.folder / "a.keys"), "--sorted", *words])
+        path.unlink()
+        self.assertEqual(self.listed(), ["a.keys"] if status == 0 else [])
+        return status, errors.getvalue()
+
+    def test_sorted(self):
+        """One sketch is kept in memory. The archive is the same as without the option, new or not."""
+        given = b"".join(b"%d\t%d\n" % (n // 1000, n) for n in range(10_000, 30_000))
+        wanted = {b"%d" % n: image_of(map(str, range(1000 * n, 1000 * n + 1000))) for n in range(10, 30)}
+        for room, memory in ((5000, "12K"), (30, "12K"), (1 << 20, "1G")):
+            self.assertEqual(self.sorted_in(room, given, "--memory", memory), (0, ""))
+            self.assertEqual(self.kept(), wanted)
+            self.assertEqual(self.sorted_in(room, given, "--memory", memory), (0, ""))
+            more = b"1\tx\n10\tx\n10\ty\n101\tz\n29\ta\n9\tb\n"
+            self.assertEqual(self.sorted_in(room, more), (0, ""))
+            both = {**wanted, b"1": image_of(["x"]), b"101": image_of(["z"]), b"9": image_of(["b"]),
+                    b"10": image_of([*map(str, range(10_000, 11_000)), "x", "y"]),
+                    b"29": image_of([*map(str, range(29_000, 30_000)), "a"])}
+            self.assertEqual(self.kept(), both)
+            (self.folder / "a.keys").unlink()
+        self.assertEqual(self.sorted_in(30, b""), (0, ""))
+        self.assertEqual(self.kept(), {})
+
+    def test_lines_that_are_not_sorted(self):
+        """The archive stays as it was, and no other file is left."""
+        for given, room, one, other in (
+            (b"a\tx\nc\tx\nb\tx\n", 4, "b", "c"), (b"a\tx\nc\tx\nb\tx\n", 1 << 20, "b", "c"),
+            (b"b\tx\nc\tx\nb\ty\n", 4, "b", "c"), (b"10\tx\n9\tx\n10\ty\n", 4, "10", "9"),
+        ):
+            words = "hll: standard input: its lines are not sorted by the bytes of their keys, as " \
+                f"{one} comes after {other}: LC_ALL=C sort sorts them\n"
+            self.assertEqual(self.sorted_in(room, given), (1, words))
+        self.succeeds("add", "--archive", "a.keys", given=b"k\tv\n")
+        before = self.read("a.keys")
+        status, _, err = self.run_hll("add", "--archive", "a.keys", "--sorted", given=b"b\tx\na\tx\n")
+        self.assertEqual((status, "a comes after b" in err), (1, True))
+        status, _, err = self.run_hll("add", "--archive", "a.keys", "--sorted", given=b"a\tx\nb\n")
+        self.assertEqual((status, "line 2 has no separator" in err), (1, True))
+        self.assertEqual((self.read("a.keys"), self.listed()), (before, ["a.keys"]))
+
     def test_wrong_command_lines(self):
         for words, err in (
             (["--archive", "a", "--by-key", "b"], "--by-key and --archive don't go together"),
-            (["--archive", "a", "--sorted"], "--sorted goes with --by-key"),
             (["a.hll", "--archive", "a"], "FILE and --archive don't go together"),
             (["--archive", "-"], "an archive is a file, and can't be -"),
         ):
@@ -238,7 +284,7 @@ class ReadTest(CommandTest):
     def test_commands_that_read_images(self):
         words = "1.keys: an archive, and not an image (estimate, merge and check read archives)"
         for command in (["info", "1.keys"], ["add", "1.keys"], ["fold", "1.keys", "--lg-k", "4", "-o", "x"],
-                        ["convert", "1.keys", "--width", "8", "-o", "x"], ["plot", "1.keys", "-o", "x"]):
+                        ["convert", "1.keys", "--width", "8", "-o", "x"], ["plot", "1.keys", "-o", "x.svg"]):
             self.fails(1, [words], *command)
         self.fails(1, [words.replace("1.keys", "-")], "estimate", "-", given=self.read("1.keys"))
         err = "standard input: an archive is read from a file, and not from here"
@@ -252,7 +298,7 @@ class ReadTest(CommandTest):
         self.write("4.keys", bytes_of({b"a": b"", b"b": image_of([]), b"c": image_of([])[:7]}))
         truncated = "image truncated (the bytes end inside what the header asks for)"
         self.assertEqual(self.run_hll("check", "."), (1, (
-            f"./3.keys: {WRONG} entry 3: the bytes end too early\n./4.keys, key a: {truncated}\n"
+            f"./3.keys: {WRONG} entry 3: the bytes end too early\n./4.keys, key a: it is empty\n"
             f"./4.keys, key c: {truncated}\n").encode(), ""))
         status, out, _ = self.run_hll("check", "--json", "3.keys", "4.keys")
         found = json.loads(out)

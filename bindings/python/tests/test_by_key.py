@@ -7,6 +7,8 @@ import io
 import json
 import os
 import random
+import resource
+import shutil
 import stat
 import subprocess
 import unittest
@@ -222,7 +224,7 @@ class ByKeyTest(CommandTest):
              ["--longest-line", "4"]),
             (b'k,v\na,"y\n', 1, f"{words} 2 is not CSV: unexpected end of data", ["--csv"]),
             (b"a\ty\nc\tz\nb\tz\n", 1, "standard input: after line 3 the sketches of 3 keys need more than "
-             "512 bytes (--memory allows more, and --by-key with --sorted needs one sketch at a time)", ["--memory", "512"]),
+             "512 bytes (--memory allows more, and --sorted needs one sketch at a time)", ["--memory", "512"]),
             (b"a\ty\nbad\tz\n", 1, f"keys/bad.hll: {TRUNCATED}", []),
             (b"a\ty\nfolder\tz\n", 2, "keys/folder.hll: No plain file any more, as it was when its folder "
              "was read", []),
@@ -272,15 +274,106 @@ class ByKeyTest(CommandTest):
             return cli._run(["add", "--by-key", str(self.folder / "keys"), *words])
 
     def test_an_error_while_files_are_written(self):
-        """Files are old or new, and it is said how many are new."""
-        before = self.write("keys/b.hll", image_of(["x"])).read_bytes()
-        with open(self.folder / "keys" / "b.hll") as held:
+        """Files are old or new, and it is said how many are new: those that are written together are all old."""
+        keys = [f"{n:03}" for n in range(by_key.TOGETHER + 9)]
+        before = self.write(f"keys/{keys[-5]}.hll", image_of(["x"])).read_bytes()
+        with open(self.folder / "keys" / f"{keys[-5]}.hll") as held:
             fcntl.flock(held, fcntl.LOCK_SH)
-            words = "keys/b.hll: another process has held its lock for 10 seconds: nothing was added to it " \
-                "(--wait waits for as long as it takes) (1 file is written: add all lines again, and " \
+            words = f"keys/{keys[-5]}.hll: another process has held its lock for 10 seconds: nothing was added to it " \
+                f"(--wait waits for as long as it takes) ({by_key.TOGETHER} files are written: add all lines again, and " \
                 "each counts once)"
-            self.fails(2, [words], "add", "--by-key", "keys", given=b"c\tz\na\tz\nb\tz\n")
-        self.assertEqual(self.kept(), {"a.hll": image_of(["z"]), "b.hll": before})
+            self.fails(2, [words], "add", "--by-key", "keys", given="".join(f"{key}\tz\n" for key in keys[::-1]).encode())
+        wanted = {f"{key}.hll": image_of(["z"]) for key in keys[: by_key.TOGETHER]}
+        self.assertEqual(self.kept(), {**wanted, f"{keys[-5]}.hll": before})
+
+    def steps_of(self, *numbers):
+        """The syncs and names of files for keys, in turn."""
+        steps, fsync, link, replace, together = [], os.fsync, os.link, os.replace, files._sync_file_system
+
+        def seen(call, step):
+            def made(*words, **more):
+                if "/proc/" not in str(words[0]):       # (which gives a file its temporary name)
+                    is_folder = step == "file" and stat.S_ISDIR(os.fstat(words[0]).st_mode)
+                    steps.append("folder" if is_folder else step)
+                return call(*words, **more)
+            return made
+
+        path = self.write("given", b"".join(b"%d\tz\n" % number for number in range(*numbers)))
+        with mock.patch.object(os, "fsync", seen(fsync, "file")), mock.patch.object(os, "link", seen(link, "name")), \
+                mock.patch.object(os, "replace", seen(replace, "name")), \
+                mock.patch.object(files, "_sync_file_system", seen(together, "file system")), \
+                mock.patch.object(os, "dup", lambda _: os.open(path, os.O_RDONLY)):
+            self.assertEqual(cli._run(["add", "--by-key", str(self.folder / "keys")]), 0)
+        return steps
+
+    def test_files_are_synced_together(self):
+        """All are on disk before the first gets its name; at the end the names are, once."""
+        self.write("keys/1.hll", image_of(["x"]))
+        wanted = []
+        for count in (by_key.TOGETHER, 100 - by_key.TOGETHER):
+            wanted += ["file system"] + ["name"] * count
+        self.assertEqual(self.steps_of(100), [*wanted, "folder"])
+        self.assertEqual(self.kept(), {
+            **{f"{n}.hll": image_of(["z"]) for n in range(100)}, "1.hll": image_of(["x", "z"])})
+        few = files.MANY - 1
+        self.assertEqual(self.steps_of(200, 200 + few), ["file"] * few + ["name"] * few + ["folder"])
+
+    def test_systems_that_report_no_error(self):
+        """There each file is synced."""
+        for release in ("5.7.19-generic", "4.19.0", "3.10"):
+            with mock.patch.object(os, "uname", return_value=mock.Mock(release=release)):
+                self.assertEqual(self.steps_of(20), ["file system"] + ["file"] * 20 + ["name"] * 20 + ["folder"])
+            shutil.rmtree(self.folder / "keys")
+        with mock.patch.object(os, "uname", return_value=mock.Mock(release="5.10.0")):
+            self.assertEqual(self.steps_of(20), ["file system"] + ["name"] * 20 + ["folder"])
+
+    def test_a_file_that_another_process_makes(self):
+        """A key's file is made while this process waits for the disk: it is merged, and not replaced."""
+        together = files._sync_together
+
+        def others(*words):
+            together(*words)
+            self.write("keys/5.hll", image_of(["others"]))
+
+        given = b"".join(b"%d\tz\n" % n for n in range(20))
+        with mock.patch.object(files, "_sync_together", others):
+            self.assertEqual(self.in_blocks(1 << 20, given), 0)
+        self.assertEqual(self.kept(), {
+            **{f"{n}.hll": image_of(["z"]) for n in range(20)}, "5.hll": image_of(["others", "z"])})
+
+    def test_an_error_of_the_disk(self):
+        """No file gets its name."""
+        before = self.write("keys/1.hll", image_of(["x"])).read_bytes()
+        given = b"".join(b"%d\tz\n" % n for n in range(20))
+        error = OSError(errno.EIO, "Input/output error")
+        with mock.patch.object(files, "_sync_file_system", side_effect=error):
+            self.assertEqual(self.in_blocks(1 << 20, given), 2)
+        self.assertEqual(self.kept(), {"1.hll": before})
+
+    def test_where_files_need_names(self):
+        """Without files that have no names, or with few descriptors, each is written alone, with the same result."""
+        wanted = {f"{n}.hll": image_of(["z"]) for n in range(30)}
+        given = b"".join(b"%d\tz\n" % n for n in range(30))
+        for patch in (mock.patch.object(os, "O_TMPFILE", 0), mock.patch.object(files, "_named", return_value=False)):
+            with patch:
+                self.assertEqual(self.in_blocks(1 << 20, given), 0)
+            self.assertEqual(self.kept(), wanted)
+            shutil.rmtree(self.folder / "keys")
+        for most in (24, 40, 64):
+            done = self.run_hll("add", "--by-key", "keys", given=given * 2,
+                                preexec_fn=lambda: resource.setrlimit(resource.RLIMIT_NOFILE, (most, most)))
+            self.assertEqual(done, (0, b"", ""))
+            self.assertEqual(self.kept(), wanted)
+
+    def test_a_link_to_a_file_elsewhere(self):
+        """It is followed, and its folder is synced too."""
+        self.write("elsewhere/b.hll", image_of(["x"]))
+        (self.folder / "keys").mkdir()
+        (self.folder / "keys" / "b.hll").symlink_to("../elsewhere/b.hll")
+        self.succeeds("add", "--by-key", "keys", given=b"a\ty\nb\ty\nc\ty\n")
+        self.assertEqual(self.read("elsewhere/b.hll"), image_of(["x", "y"]))
+        self.assertTrue((self.folder / "keys" / "b.hll").is_symlink())
+        self.assertEqual(sorted(self.kept()), ["a.hll", "b.hll", "c.hll"])
 
     def test_at_once(self):
         """Of several at once no one loses values, also where all make the same files."""
@@ -316,7 +409,7 @@ class ByKeyTest(CommandTest):
         image = _library.add(directory.begin(b"a"), *by_key.joined([b"x"]))
         self.write("a.hll", image_of(["y"], 9))
         with self.assertRaisesRegex(files.Trouble, "its lg_k has become 9, from 12, while"):
-            directory.write(b"a", image)
+            directory.write_all(mock.Mock(take=lambda key: image), [b"a"])
         self.assertEqual(self.read("a.hll"), image_of(["y"], 9))
 
     def test_wrong_command_lines(self):

@@ -2,6 +2,7 @@
 """Values that lie in memory count as they do one by one, whatever shows them."""
 import ctypes
 import math
+import pickle
 import random
 import shutil
 import struct
@@ -12,7 +13,8 @@ from array import array
 from unittest import mock
 
 import common  # noqa: F401, for the path
-from hll_sketches import ArgumentError, Registers, Sketch, _library, _values, coupon, coupons
+from hll_sketches import (
+    ArgumentError, ImageError, PrecisionError, Registers, Sketch, SketchUnion, _library, _values, coupon, coupons, union_of)
 
 try:
     import numpy
@@ -46,6 +48,13 @@ def one_by_one(values):
     return made.to_bytes()
 
 
+def sketch_of(lg_k):
+    """The image of a sketch of one value."""
+    made = Sketch(lg_k)
+    made.update("ann")
+    return made.to_bytes()
+
+
 def skipped(values):
     """The image of values, without those that are missing."""
     made = Sketch(11)
@@ -68,7 +77,7 @@ class ColumnTest(unittest.TestCase):
         if len(there) < len(singly):
             number = next(n for n, value in enumerate(singly) if value != value)
             for made in (sketch, registers):
-                with self.assertRaisesRegex(ArgumentError, f"^value {number:,} is missing "):
+                with self.assertRaisesRegex(ArgumentError, f"^(row {number}: )?value {number:,} is missing "):
                     made.update_many(values)
                 made.reset()
         sketch.update_many(values, skip_missing=True)
@@ -517,6 +526,102 @@ class ArrowTest(PandasCheck):
             self.refused_or_skipped(pandas.Series([*values, None], dtype=kind), values)
 
 
+class PandasPlaceTest(unittest.TestCase):
+    """An error about a value names the group and the row."""
+
+    def frame_of(self, value, dtype=object):
+        column = pandas.Series(["x", "y", value, "z"] if dtype is object else [1, 2, value, 3], dtype=dtype)
+        return pandas.DataFrame({"page": ["/a", "/a", "/b", "/b"], "value": column}).set_index(pandas.Index(list("pqrs")))
+
+    def told(self, kind, call):
+        with self.assertRaises(kind) as caught:
+            call()
+        return str(caught.exception)
+
+    def test_missing(self):
+        cure = "pass skip_missing=True to leave missing values out"
+        for value, dtype, shown_ in ((None, object, "None"), (None, "Int64", "None"), (math.nan, float, "nan"), (None, "category", "None")):
+            frame = self.frame_of(value, dtype)
+            for call in (lambda values: Sketch().update_many(values), lambda values: Registers(11).update_many(values)):
+                told = self.told(ArgumentError, lambda: frame.groupby("page")["value"].apply(call))
+                self.assertEqual(told, f"'/b', row 'r': value 0 is missing ({shown_}): {cure}")
+                told = self.told(ArgumentError, lambda: call(frame["value"]))
+                self.assertEqual(told, f"'value', row 'r': value 2 is missing ({shown_}): {cure}")
+                told = self.told(ArgumentError, lambda: call(frame["value"].rename(None)))
+                self.assertEqual(told, f"row 'r': value 2 is missing ({shown_}): {cure}")
+            with self.assertRaises(ArgumentError) as caught:
+                Sketch().update_many(frame["value"])
+            again = pickle.loads(pickle.dumps(caught.exception))
+            self.assertEqual(str(again), str(caught.exception))
+        told = self.told(ArgumentError, lambda: Sketch().update_many(list(self.frame_of(None)["value"])))
+        self.assertEqual(told, f"value 2 is missing (None): {cure}")
+
+    def test_other_types(self):
+        for value, kind in ((pandas.Timestamp("2026-11-01"), TypeError), (2**64, OverflowError)):
+            frame = self.frame_of(value)
+            plain = self.told(kind, lambda: Sketch().update_many(list(frame["value"])))
+            told = self.told(kind, lambda: frame.groupby("page")["value"].apply(lambda values: Sketch().update_many(values)))
+            self.assertEqual(told, f"'/b': {plain}")
+            self.assertEqual(self.told(kind, lambda: Sketch().update_many(frame["value"])), f"'value': {plain}")
+            self.assertEqual(self.told(kind, lambda: Sketch().update_many(frame["value"].rename(None))), plain)
+            self.assertEqual(self.told(kind, lambda: Sketch().update_many(pandas.Index(frame["value"]))), plain)
+
+
+class PandasUnionTest(unittest.TestCase):
+    """Unions of a column of images: an error names the group and the row."""
+
+    def setUp(self):
+        images = [Sketch().to_bytes() for _ in range(6)]
+        self.frame = pandas.DataFrame({"page": list("aabbcc"), "day": [1, 1, 1, 2, 2, 2], "image": images},
+                                      index=[f"r{n}" for n in range(6)])
+
+    def error_of(self, call, kind=ImageError):
+        with self.assertRaises(kind) as caught:
+            call()
+        error = caught.exception
+        again = pickle.loads(pickle.dumps(error))
+        self.assertEqual((again.number, again.place, str(again)), (error.number, error.place, str(error)))
+        return error.number, error.place, str(error)
+
+    def test_groups(self):
+        grouped = self.frame.groupby("page")["image"]
+        self.assertEqual([one.to_bytes() for one in grouped.apply(union_of)], [Sketch().to_bytes()] * 3)
+        self.frame.loc["r3", "image"] = self.frame["image"]["r3"][:5]
+        for key, wanted in (("page", "'b', row 'r3'"), ("day", "2, row 'r3'"), (["page", "day"], "('b', 2), row 'r3'")):
+            grouped = self.frame.groupby(key)["image"]
+            for call in (union_of, lambda images: SketchUnion().update_many(images)):
+                number, place, words = self.error_of(lambda: grouped.apply(call))
+                self.assertEqual(place, wanted)
+                self.assertEqual(words.split(" (")[0], f"{wanted}: image is rejected: truncated")
+            self.assertEqual(self.error_of(lambda: grouped.agg(union_of))[1], "'image', row 'r3'")
+
+    def test_columns(self):
+        self.frame.loc["r4", "image"] = b""
+        column = self.frame["image"]
+        for images, wanted in ((column, "'image', row 'r4'"), (column.rename(None), "row 'r4'"),
+                               (column[::-1], "'image', row 'r4'"), (column.reset_index(drop=True), "'image', row 4")):
+            self.assertEqual(self.error_of(lambda: union_of(images))[:2], (list(images).index(b""), wanted))
+        for images in (list(column), column.array, column.to_numpy(), iter(column), pandas.Index(column)):
+            self.assertEqual(self.error_of(lambda: union_of(images))[:2], (4, None))
+
+    def test_missing(self):
+        self.frame.loc["r1", "image"] = None
+        with self.assertRaisesRegex(TypeError, "^'a', row 'r1': expected the bytes of a sketch, not NoneType$"):
+            self.frame.groupby("page")["image"].apply(union_of)
+        with self.assertRaisesRegex(TypeError, "^expected the bytes of a sketch, not NoneType$"):
+            union_of(list(self.frame["image"]))
+        with self.assertRaisesRegex(TypeError, "^expected many sketches, not one bytes: pass a list of it$"):
+            union_of(Sketch().to_bytes())
+
+    def test_other_lg_k(self):
+        self.frame["image"] = [sketch_of(10 if label == "r5" else 12) for label in self.frame.index]
+        grouped = self.frame.groupby("day")["image"]
+        number, place, words = self.error_of(lambda: grouped.apply(union_of), PrecisionError)
+        self.assertEqual((number, place), (2, "2, row 'r5'"))
+        self.assertEqual(words, "2, row 'r5' has lg_k 10 and not 12: lg_max_k=10 merges them")
+        self.assertEqual(grouped.apply(union_of, lg_max_k=10).loc[2].lg_k, 10)
+
+
 class OtherPythonTest(unittest.TestCase):
     def test_numpy(self):
         """The tests of NumPy, in the system's Python, which may have it where this one hasn't."""
@@ -532,7 +637,7 @@ if numpy is None:
 else:
     del OtherPythonTest
 if pandas is None:
-    del PandasTest
+    del PandasTest, PandasPlaceTest, PandasUnionTest
 if pyarrow is None or pandas is None:
     del ArrowTest
 

@@ -3,24 +3,27 @@
 import fcntl
 import io
 import json
+import operator
 import os
 import random
+import re
 import resource
 import shutil
 import signal
 import stat
 import struct
 import subprocess
+import sys
 import threading
 import unittest
 from contextlib import redirect_stderr, redirect_stdout
 from ctypes.util import find_library
-from itertools import product
+from itertools import product, takewhile
 from unittest import mock
 
 import common  # noqa: F401, for the path
-from command import COMMAND, CommandTest, TRUNCATED, environment, interruptible
-from hll_sketches import Sketch, __version__, _library, adding, cli, commands, fault_of, files, layout
+from command import COMMAND, CUT, CommandTest, TEXT, TRUNCATED, environment, interruptible
+from hll_sketches import Sketch, __version__, _library, adding, cli, commands, fault_of, files, layout, write_archive
 from hll_sketches._errors import explained
 from hll_sketches._names import shown
 from mutants import KINDS, Mutants
@@ -417,6 +420,91 @@ class InfoTest(CommandTest):
         self.assertEqual((rows["lg_k"], rows["bytes"]), ("12, so 4,096 registers", "4,136"))
         self.assertEqual((rows["flags"], rows["fields"][:4]), ("out of order", "set:"))
 
+    def table_of(self, *words):
+        """The rows of the table that a command prints, as dictionaries, and the lines after it."""
+        header, *lines = self.succeeds(*words).decode().split("\n")
+        rows = list(takewhile(bool, lines))
+        ends = [match.end() for match in re.finditer(r"\S+", header)]
+        self.assertTrue(all(len(row.split()) == len(ends) for row in rows), rows)
+        columns = header.split()
+        for row in rows:        # numbers end where the names of their columns do
+            for column, cell, end in zip(columns, re.finditer(r"\S+", row), ends):
+                is_number = column not in ("stage", "fields", "file", "key")
+                self.assertTrue(cell.end() == end if is_number else cell.start() == end - len(column), (row, column))
+        return [dict(zip(columns, row.split())) for row in rows], lines[len(rows) + 1 :]
+
+    def test_table(self):
+        made = [sketch_of(range(30_000)), sketch_of(range(7), 10, 4), Sketch(21)]
+        names = ["a.hll", "a_long_name_of_a_file.hll", "c.hll"]
+        for name, one in zip(names, made):
+            self.write(name, one.to_bytes())
+        rows, after = self.table_of("info", "--deviations", 3, *names)
+        self.assertEqual(after, [])
+        self.assertEqual([row["file"] for row in rows], names)
+        for row, one in zip(rows, made):
+            self.assertEqual((row["lg_k"], row["width"], row["stage"]), (str(one.lg_k), str(one.width), one.stage))
+            numbers = [f"{number:,.0f}" for number in (one.estimate(), *one.bounds(3))]
+            self.assertEqual([row["estimate"], row["lower"], row["upper"]], numbers)
+            self.assertEqual((row["bytes"], row["fields"]), (f"{len(one.to_bytes()):,}", "set" if one.stage == "registers" else "none"))
+        self.write("bad", b"")
+        status, out, err = self.run_hll("info", "bad", "a.hll", "none")
+        self.assertEqual((status, err), (2, "hll: bad: it is empty\nhll: none: No such file or directory\n"))
+        self.assertEqual(len(out.decode().strip().split("\n")), 2)
+        self.fails(1, ["bad: it is empty"] * 2, "info", "bad", "bad")
+
+    def pair(self, one, two, *more):
+        self.write("1.hll", one.to_bytes())
+        status, out, err = self.run_hll("info", "1.hll", "-", *more, given=two.to_bytes())
+        self.assertEqual((status, err), (0, ""))
+        first, *rest = out.decode().split("\n\n")[1].rstrip("\n").split("\n")
+        self.assertEqual(first, "both:")
+        return dict(line.strip().split("  ", 1) for line in rest)
+
+    def test_two(self):
+        """Whether they agree, their union, and why there is no intersection."""
+        one, two = sketch_of(range(30_000)), sketch_of(range(20_000, 40_000))
+        both = one | two
+        rows = {key: value.strip() for key, value in self.pair(one, two, "--deviations", 1).items()}
+        differing = sum(map(operator.ne, layout.registers_of(one.to_bytes(), 12), layout.registers_of(two.to_bytes(), 12)))
+        self.assertEqual(rows["agree"], f"no, in {differing:,} of 4,096 slots at lg_k 12")
+        self.assertEqual(rows["union"], f"{both.estimate():,.0f}, at lg_k 12")
+        self.assertEqual(rows["bounds"], "%s to %s, at 1 standard deviations" % tuple(f"{bound:,.0f}" for bound in both.bounds(1)))
+        three = [made.estimate() for made in (one, two, both)]
+        error = sum((made.bounds(1)[1] - made.bounds(1)[0]) / 2 for made in (one, two, both))
+        sizes = f"{three[0]:,.0f} + {three[1]:,.0f} - {three[2]:,.0f} = {three[0] + three[1] - three[2]:,.0f}"
+        self.assertEqual(rows["intersection"], f"not estimated: {sizes} has the errors of three estimates, together {error:,.0f}")
+
+    def test_two_of_other_sizes(self):
+        rows = self.pair(sketch_of(range(300)), sketch_of(range(300), 12, 4))
+        self.assertEqual(rows["agree"].strip(), "yes, at lg_k 12")
+        rows = self.pair(sketch_of(range(30_000), 14), sketch_of(range(30_000), 10))
+        self.assertEqual(rows["agree"].strip(), "yes, at lg_k 10")
+        self.assertEqual(rows["union"].strip(), f"{sketch_of(range(30_000), 10).estimate():,.0f}, at lg_k 10")
+        rows = self.pair(sketch_of(range(30_000), 14), Sketch(10))      # an empty one lowers nothing
+        self.assertEqual(rows["union"].strip(), f"{sketch_of(range(30_000), 14).estimate():,.0f}, at lg_k 14")
+        full = Sketch(4)
+        for slot in range(16):
+            full.add_coupon(slot, 63)
+        rows = self.pair(full, Sketch(4))
+        self.assertEqual(rows["intersection"].strip(), "not estimated: an estimate is infinite")
+        records = json.loads(self.succeeds("info", "--json", "1.hll", "1.hll"))
+        self.assertEqual([one["file"] for one in records], ["1.hll"] * 2)
+
+    def test_table_of_estimates(self):
+        self.write("a.hll", image_of(range(30_000)))
+        rows, _ = self.table_of("estimate", "--table", "a.hll", "a.hll")
+        one = sketch_of(range(30_000))
+        numbers = [f"{number:,.0f}" for number in (one.estimate(), *one.bounds(2))]
+        self.assertEqual(rows, [dict(zip(("estimate", "lower", "upper", "file"), [*numbers, "a.hll"]))] * 2)
+        write_archive(self.folder / "b.keys", {"/home": Sketch(), b"\xff": one})
+        out = self.succeeds("estimate", "--table", "b.keys", "a.hll", "--deviations", 1).decode().split("\n")
+        self.assertEqual(out[0].split(), ["estimate", "lower", "upper", "file", "key"])
+        self.assertEqual([line.split()[3:] for line in out[1:-1]], [["b.keys", "/home"], ["b.keys", r"$'\377'"], ["a.hll"]])
+        self.assertEqual(out[3].split()[1], f"{one.bounds(1)[0]:,.0f}")
+        status, out, err = self.run_hll("estimate", "--table", "--json", "a.hll")
+        self.assertEqual((status, out), (2, b""))
+        self.assertIn("--table and --json don't go together", err)
+
     def test_words(self):
         made = sketch_of(range(30_000))
         image = made.to_bytes()
@@ -467,12 +555,44 @@ class CheckTest(CommandTest):
                 wanted += [(f"all/{name}", reason)] if reason else []
         self.assertGreater(len({reason for _, reason in wanted}), 8)
         status, out, err = self.run_hll("check", "all")
-        lines = "".join(f"{name}: image {explained(reason)}\n" for name, reason in wanted)
+        lines = "".join(f"{name}: {self.told(name, reason)}\n" for name, reason in wanted)
         self.assertEqual((status, out.decode(), err), (1, lines, ""))
         status, out, _ = self.run_hll("check", "all", "--json")
         told = json.loads(out)
         self.assertEqual((status, told["checked"]), (1, 30 * len(KINDS)))
         self.assertEqual([(one["file"], one["reason"]) for one in told["refused"]], wanted)
+
+    def told(self, name, reason):
+        """What is said of a file: in words of its own, if it has another family byte than an image."""
+        data = self.read(name)
+        is_other = data[2:3] not in (b"", b"\7")
+        return f"not an image (the family byte is {data[2]}, and not 7)" if is_other else f"image {explained(reason)}"
+
+    HEXADECIMAL = "it is text, the hexadecimal digits of an image (xxd -r -p makes bytes of them)"
+    OTHERS = (
+        (b"", "it is empty"), (b"no", TEXT), (b"7\n", TEXT), (b"\n", TEXT), (b"key\tvalue\r\n" * 9, TEXT),
+        (b"{}", TEXT), ("h\u00e9, \u4e2d".encode(), TEXT), ("\u00e9".encode() * 40_000, TEXT), (b"0201080a", TEXT),
+        (b"0201070a030801080500000c\n", HEXADECIMAL), (b"0A0107", HEXADECIMAL),
+        (b"\x7fELF\2\1\1", "not an image (the family byte is 76, and not 7)"),
+        (b"\xff\xfea\0b\0", "not an image (the family byte is 97, and not 7)"), (bytes(40), "not an image (the family byte is 0, and not 7)"),
+        (b"\2", TRUNCATED), (b"\2\1", TRUNCATED), (b"\2\1\7", TRUNCATED), (b"\2\1\7\x0a\3\x08\1\x08\5", TRUNCATED),
+        (b"\2\2\7\x0a\3\x08\1\x08\5\0\0\x0c", "image version (the serial version is not 1)"),
+    )
+
+    def test_what_else_a_file_is(self):
+        """An empty file, a text, other bytes and an image that is cut are distinguished, by each command."""
+        good = image_of(["abc"])
+        self.write("good", good)
+        for data, words in self.OTHERS:
+            self.write("bad", data)
+            for command in (["estimate", "bad"], ["info", "bad"], ["merge", "good", "bad", "-o", "x"], ["add", "bad"],
+                            ["convert", "bad", "--width", 4, "-o", "x"], ["plot", "bad", "-o", "x.svg"]):
+                self.fails(1, [f"bad: {words}"], *command)
+            self.assertEqual(self.run_hll("check", "bad"), (1, f"bad: {words}\n".encode(), ""))
+            self.assertEqual(self.run_hll("check", "-", given=data), (1, f"-: {words}\n".encode(), ""))
+            found = json.loads(self.run_hll("check", "--json", "bad")[1])["refused"]
+            self.assertEqual(found, [{"file": "bad", "reason": fault_of(data)}])
+        self.fails(1, ["/dev/null: it is empty"], "estimate", "/dev/null")
 
     def test_none_is_refused(self):
         self.write("all/a", image_of(["abc"]))
@@ -491,7 +611,7 @@ class CheckTest(CommandTest):
         self.assertEqual((status, json.loads(out), told), (0, {"checked": 4, "refused": []}, err))
 
     def test_troubles(self):
-        self.write("a", b"")
+        self.write("a", CUT)
         (self.folder / "empty").mkdir()
         status, out, err = self.run_hll("check", "none", "a")
         wanted = (2, b"a: " + TRUNCATED.encode() + b"\n", "hll: none: No such file or directory\n")
@@ -502,7 +622,7 @@ class CheckTest(CommandTest):
     def test_names_of_any_bytes(self):
         name = b"a\xff\nb"
         with open(os.path.join(os.fsencode(self.folder), name), "wb") as file:
-            file.write(b"no")
+            file.write(CUT)
         status, out, _ = self.run_hll("check", ".")
         self.assertEqual((status, out), (1, rb"$'./a\377\nb': " + TRUNCATED.encode() + b"\n"))
         status, out, _ = self.run_hll("check", "--files-from", "-", "-0", given=name + b"\0")
@@ -535,7 +655,7 @@ class OneFromAnotherTest(CommandTest):
         words = "a.hll: its lg_k is 12, and a fold goes no higher"
         self.fails(1, [words], "fold", "a.hll", "--lg-k", 13, "-o", "b.hll")
         self.write("c.hll", b"\0" * 50)
-        words = "c.hll: image family (the family byte is not 7, so this is no HLL sketch)"
+        words = "c.hll: not an image (the family byte is 0, and not 7)"
         self.fails(1, [words], "convert", "c.hll", "--width", 4, "-o", "b.hll")
         self.assertEqual(self.listed(), ["a.hll", "c.hll"])
 
@@ -595,7 +715,7 @@ class DiffTest(CommandTest):
 
     def test_trouble(self):
         self.write("a.hll", image_of(["abc"]))
-        self.write("b.hll", b"")
+        self.write("b.hll", CUT)
         self.fails(2, [f"b.hll: {TRUNCATED}"], "diff", "a.hll", "b.hll")
         self.fails(2, ["none: No such file or directory"], "diff", "none", "a.hll")
 
@@ -632,11 +752,11 @@ STUB = """
 import sys
 class tqdm:
     def __init__(self, **more):
-        self.number, self.more = 0, more
+        self.number, self.total, self.more = 0, more["total"], more
     def update(self, number):
         self.number += number
     def close(self):
-        sys.stderr.write(f"BAR {self.number} {self.more['delay']}\\n")
+        sys.stderr.write(f"BAR {self.number} of {self.total} {self.more['unit']} {self.more['delay']}\\n")
 """
 
 
@@ -689,18 +809,18 @@ class OutputsTest(CommandTest):
     and its mode."""
 
     COMMANDS = (
-        ["add", "a.hll"], ["merge", "b.hll", "-o", "a.hll"], ["plot", "b.hll", "-o", "a.hll"],
-        ["fold", "b.hll", "--lg-k", 4, "-o", "a.hll"], ["convert", "b.hll", "--width", 4, "-o", "a.hll"],
+        ["add", "a.svg"], ["merge", "b.hll", "-o", "a.svg"], ["plot", "b.hll", "-o", "a.svg"],
+        ["fold", "b.hll", "--lg-k", 4, "-o", "a.svg"], ["convert", "b.hll", "--width", 4, "-o", "a.svg"],
     )
 
     def compare(self, words, uid, mode):
         for command in self.COMMANDS:
             self.write("b.hll", image_of(range(9)))
-            path = self.write("a.hll", image_of(range(3)))
+            path = self.write("a.svg", image_of(range(3)))
             os.chown(path, uid, uid)
             os.chmod(path, mode)
             before = path.read_bytes()
-            self.fails(2, [f"a.hll: {words} (--force replaces it)"], *command, given=b"x\n")
+            self.fails(2, [f"a.svg: {words} (--force replaces it)"], *command, given=b"x\n")
             self.assertEqual(path.read_bytes(), before)
             self.succeeds(*command, "--force", given=b"x\n")
             self.assertNotEqual(path.read_bytes(), before)
@@ -748,32 +868,32 @@ class OutputsTest(CommandTest):
         of one's own, or of the folder's owner, is."""
         if os.geteuid() != 0:
             self.skipTest("only root can make a link that belongs to another user")
-        shared, target = self.folder / "shared", self.folder / "mine"
+        shared, target = self.folder / "shared", self.folder / "mine.svg"
         shared.mkdir()
-        link, image = shared / "out.hll", image_of(range(9))
+        link, image = shared / "out.svg", image_of(range(9))
         self.write("b.hll", image)
         words = "Permission denied (another user made this symbolic link in a folder for all users)"
-        commands_ = [*(command for command in self.COMMANDS if command[0] != "add"), ["new", "a.hll"],
-                     ["add", "b.hll", "-o", "a.hll"]]
+        commands_ = [*(command for command in self.COMMANDS if command[0] != "add"), ["new", "a.svg"],
+                     ["add", "b.hll", "-o", "a.svg"]]
         for mode, owner, of_folder, is_followed in (
             (0o1777, 61234, 0, False), (0o1777, 61234, 61235, False), (0o1777, 61234, 61234, True),
             (0o1777, 0, 61235, True), (0o777, 61234, 0, True), (0o1775, 61234, 0, True),
         ):
             os.chown(shared, of_folder, 0)
             os.chmod(shared, mode)
-            for path, end in ((link, target), (self.folder / "first", target), (shared / "down" / "mine", target)):
+            for path, end in ((link, target), (self.folder / "first.svg", target), (shared / "down" / "mine.svg", target)):
                 if path.parent.name == "down":
                     link.symlink_to(self.folder)        # a folder on the way
                     os.lchown(link, owner, owner)
-                    path = link / "mine"
+                    path = link / "mine.svg"
                 elif path != link:
-                    path.symlink_to("shared/out.hll")
+                    path.symlink_to("shared/out.svg")
                 if path.parent != link:
                     link.symlink_to(target)
                     os.lchown(link, owner, owner)
                 for command in commands_:
                     target.write_bytes(b"precious")
-                    named = [str(path) if word == "a.hll" else word for word in command] + ["--force"]
+                    named = [str(path) if word == "a.svg" else word for word in command] + ["--force"]
                     found = self.run_hll(*named)
                     if is_followed:
                         self.assertEqual(found, (0, b"", ""), named)
@@ -876,23 +996,71 @@ class StreamsTest(CommandTest):
         self.assertEqual((data, len(data) > files.PIECE), (image, True))
         self.assertEqual(len(files.bytes_of_file("/dev/zero")), files.PIECE)
 
+    def seen(self, words, given=None, **more):
+        """The status of a command, and what a terminal is shown on standard error."""
+        leader, terminal = os.openpty()
+        with open(given or os.devnull, "rb") as stdin:
+            done = subprocess.run(words, stdin=stdin, stdout=subprocess.DEVNULL, stderr=terminal, cwd=self.folder,
+                                  env=dict(environment(), **more))
+        os.set_blocking(leader, False)
+        os.close(terminal)
+        try:
+            shown = os.read(leader, 1 << 16)
+        except OSError:     # nothing was written, and nobody is left to write
+            shown = b""
+        os.close(leader)
+        return done.returncode, shown
+
     def test_progress(self):
-        """A bar is shown where standard error is a terminal and tqdm is there, else none."""
+        """A bar is shown where standard error is a terminal and tqdm is there, with the total."""
         self.write("stub/tqdm.py", STUB.encode())
         self.write("all/a", image_of(["abc"]))
         self.write("all/b", image_of(["def"]))
+        write_archive(self.folder / "k.keys", {"a": Sketch(), "b": Sketch()})
+        lines = self.write("lines", b"a\tx\n" * 1000)
         path = os.pathsep.join([str(self.folder / "stub"), str(common.PACKAGE)])
-        own = dict(environment(), PYTHONPATH=path)
-        for command in ("check", "merge"):
-            words = [*COMMAND, command, "all"] + (["-o", "x"] if command == "merge" else [])
-            leader, terminal = os.openpty()
-            done = subprocess.run(words, stderr=terminal, cwd=self.folder, env=own)
-            os.close(terminal)
-            shown = os.read(leader, 1000)
-            os.close(leader)
-            self.assertEqual((done.returncode, shown), (0, b"BAR 2 1\r\n"))
-            quiet = subprocess.run(words, stderr=subprocess.PIPE, cwd=self.folder, env=own)
+        for command, bars, given in (
+            ("check all", ["2 of 2 file"], None), ("merge all -o x", ["2 of 2 file"], None),
+            ("info all/a all/b", ["2 of 2 file"], None), ("estimate all/a all/b all/a", ["3 of 3 file"], None),
+            ("merge --by-key k.keys k.keys -o x", ["2 of 2 file", "4 of 4 image"], None),
+            ("add all/a", ["4000 of 4000 B"], lines), ("add --by-key d", ["4000 of 4000 B", "1 of 1 key"], lines),
+            ("add --archive e", ["4000 of 4000 B", "1 of 1 key"], lines),
+        ):
+            wanted = "".join(f"BAR {bar} 1.0\r\n" for bar in bars).encode()
+            self.assertEqual(self.seen([*COMMAND, *command.split()], given, PYTHONPATH=path), (0, wanted), command)
+            with open(given or os.devnull, "rb") as stdin:
+                quiet = subprocess.run([*COMMAND, *command.split()], stdin=stdin, stdout=subprocess.DEVNULL,
+                                       stderr=subprocess.PIPE, cwd=self.folder, env=dict(environment(), PYTHONPATH=path))
             self.assertEqual((quiet.returncode, quiet.stderr), (0, b""))
+        call = [sys.executable, "-c", "from hll_sketches import merge_files; merge_files(['all'])"]
+        self.assertEqual(self.seen(call, PYTHONPATH=path), (0, b"BAR 2 of 2 file 1.0\r\n"))
+        self.assertEqual(subprocess.run(call, cwd=self.folder, env=environment(), capture_output=True).stderr, b"")
+
+    def test_progress_of_a_pipe(self):
+        """Of lines whose number is not known."""
+        self.write("stub/tqdm.py", STUB.encode())
+        path = os.pathsep.join([str(self.folder / "stub"), str(common.PACKAGE)])
+        words = ["sh", "-c", "seq 30 | " + " ".join([*COMMAND, "add --archive e --key 1 --value 1"])]
+        self.assertEqual(self.seen(words, PYTHONPATH=path), (0, b"BAR 30 of None line 1.0\r\nBAR 30 of 30 key 1.0\r\n"))
+
+    def test_progress_without_tqdm(self):
+        """A line is written again now and then, and cleared; nothing within the first second."""
+        self.write("all/a", image_of(["abc"]))
+        self.write("all/b", image_of(["def"]))
+        place = "import sys; sys.modules['tqdm'] = None; from hll_sketches import progress; %s; " \
+            "from hll_sketches.__main__ import main; sys.exit(main())"
+        at_once = [sys.executable, "-c", place % "progress.DELAY = progress.PAUSE = 0", "check", "all"]
+        clear = b"\r\x1b[K"
+        wanted = clear + b"1 of 2 files, 50 %" + clear + b"2 of 2 files, 100 %" + clear
+        self.assertEqual(self.seen(at_once), (0, wanted))
+        self.assertEqual(self.seen([sys.executable, "-c", place % "pass", "check", "all"]), (0, b""))
+        lines = self.write("lines", b"a\n" * 2_500_000)
+        at_once[-2:] = ["add", "all/a"]
+        status, shown = self.seen(at_once, lines)
+        self.assertTrue(shown.endswith(clear + b"5 of 5 MB, 100 %" + clear), shown)
+        call = "import sys; sys.modules['tqdm'] = None; from hll_sketches import merge_files, progress; " \
+            "progress.DELAY = 0; merge_files(['all'])"
+        self.assertEqual(self.seen([sys.executable, "-c", call]), (0, b""))
 
 
 if __name__ == "__main__":

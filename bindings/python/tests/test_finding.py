@@ -10,7 +10,7 @@ import unittest
 from unittest import mock
 
 import common  # noqa: F401, for the path
-from command import COMMAND, CommandTest, TRUNCATED, environment, other_user
+from command import COMMAND, CUT, CommandTest, TRUNCATED, environment, other_user
 from hll_sketches import ImageError, Sketch, files, finding, merge_files
 from hll_sketches._names import shown
 
@@ -310,7 +310,7 @@ class NamesTest(CommandTest):
             place = os.path.join(os.fsencode(self.folder), b"all")
             os.makedirs(place, exist_ok=True)
             with open(os.path.join(place, name), "wb") as file:
-                file.write(b"no")
+                file.write(CUT)
         for words in (["check", "all"], ["merge", "all", "-o", "one.hll"]):
             status, out, err = self.run_hll(*words)
             lines = (out.decode() + err).split("\n")

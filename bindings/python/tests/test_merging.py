@@ -14,9 +14,8 @@ import unittest
 from unittest import mock
 
 import common
-from command import COMMAND, CommandTest, TRUNCATED, environment, interruptible, other_user
+from command import COMMAND, CUT, CommandTest, TEXT, TRUNCATED, environment, interruptible, other_user
 from hll_sketches import ArgumentError, Sketch, _library, _workers, files, merging, union_of
-from hll_sketches._errors import explained
 
 FILES = 300
 COUNTS = (0, 1, 8, 9, 40, 3000, 20_000)
@@ -121,7 +120,7 @@ class MergeTest(LaidOut):
     def test_processes_have_the_work(self):
         """More than a group of files, with standard input among them, and refusals in order."""
         names = self.lay_out() * 5
-        self.write("bad", b"no")
+        self.write("bad", CUT)
         self.write("list", "".join(f"{name}\n" for name in [*names, "bad"]).encode())
         wanted = union_of(IMAGES, 12).to_bytes()
         extra = Sketch()
@@ -242,11 +241,11 @@ class RefusalsTest(LaidOut):
         """Files of which some are bad; the lines that tell of these."""
         good = IMAGES[:60]
         self.lay_out(good)
-        reasons = ("truncated", "truncated", "family", "truncated", "family")
+        words = ("it is empty", TEXT, "not an image (the family byte is 3, and not 7)", TRUNCATED, TEXT)
         lines = []
-        for number, (data, reason) in enumerate(zip(self.BAD, reasons)):
+        for number, (data, why) in enumerate(zip(self.BAD, words)):
             self.write(f"all/1/bad{number}", data)
-            lines.append(f"all/1/bad{number}: image {explained(reason)}")
+            lines.append(f"all/1/bad{number}: {why}")
         return lines, union_of(good, 12).to_bytes()
 
     def test_all_bad_files_are_named(self):
@@ -290,7 +289,7 @@ class RefusalsTest(LaidOut):
             self.assertEqual(self.read("one.hll"), union_of(IMAGES, 12).to_bytes())
 
     def test_nothing_to_merge(self):
-        self.write("bad", b"no")
+        self.write("bad", CUT)
         (self.folder / "empty").mkdir()
         words = [f"bad: {TRUNCATED} (left out)", "merge: no image is left to merge"]
         self.fails(1, words, "merge", "bad", "--skip-bad", "-o", "one.hll")

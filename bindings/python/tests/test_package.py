@@ -224,7 +224,8 @@ EMPTY(hll_image_new) EMPTY(hll_image_add) EMPTY(hll_image_add_coupon) EMPTY(hll_
 EMPTY(hll_images_union) EMPTY(hll_image_fold) EMPTY(hll_image_convert) EMPTY(hll_image_check)
 EMPTY(hll_image_size) EMPTY(hll_image_set_estimator_fields) EMPTY(hll_image_clear_estimator_fields) EMPTY(hll_images_agree) EMPTY(hll_coupon) EMPTY(hll_coupons)
 EMPTY(hll_estimate) EMPTY(hll_hip_estimate)
-EMPTY(hll_state_new) EMPTY(hll_state_join) EMPTY(hll_state_image)
+EMPTY(hll_counter_free) EMPTY(hll_counter_settle) EMPTY(hll_counter_shrink) EMPTY(hll_counter_copy) EMPTY(hll_counter_join) EMPTY(hll_counter_info)
+EMPTY(hll_counter_image) EMPTY(hll_counter_estimate)
 EMPTY(hll_registers_add) EMPTY(hll_registers_add_coupons)
 EMPTY(hll_registers_merge) EMPTY(hll_registers_merge_registers) EMPTY(hll_registers_fold)
 EMPTY(hll_registers_histogram) EMPTY(hll_registers_image) EMPTY(hll_registers_estimate)
@@ -235,10 +236,11 @@ u8 hll_image_histogram(const u8 *image, size_t len, uint64_t *counts)
 #endif
 u8 hll_image_info(const u8 *image, size_t len, u8 *info, size_t size)
 { if (size != SIZE) return 12; memset(info, 0, SIZE); info[0] = 1; info[56] = 10; info[57] = 8; return 0; }
+u8 hll_counter_init(u8 *counter) { memset(counter, 0, COUNTER); return 0; }
 """
 
 
-SOUND = {"SIZE": 64, "COUNT": 3, "VERSION": 2007}
+SOUND = {"SIZE": 64, "COUNT": 3, "COUNTER": 112, "VERSION": 2007}
 """A layout and a version that are taken."""
 
 
@@ -267,6 +269,8 @@ class OtherLibrariesTest(CommandTest):
     def test_another_layout(self):
         self.assertEqual(self.told_of(SIZE=72), "its info is laid out in another way")
         self.assertEqual(self.told_of(COUNT=4), "its histogram is laid out in another way")
+        for size in (104, 120):
+            self.assertEqual(self.told_of(COUNTER=size), "its counter is laid out in another way")
         self.assertEqual(self.told_of(), "its estimation is laid out in another way")
 
     def test_a_missing_call(self):
@@ -362,6 +366,42 @@ class PlantedTest(CommandTest):
                 self.assertFalse(self.mark.exists())
         self.run_from(place, sys.executable, "-m", "hll_sketches")      # as the page of the package says
         self.assertTrue(self.mark.exists())
+
+
+class NoPythonTest(CommandTest):
+    """The command of a checkout without a Python that it can use says what to install."""
+
+    def said(self, python=None):
+        place = self.folder / "bin"
+        place.mkdir(exist_ok=True)
+        for name in ("dirname", "readlink"):
+            if not (place / name).exists():
+                (place / name).symlink_to(shutil.which(name))
+        if python is not None:
+            (place / "python3").write_text("#!%s -B\n%s" % (sys.executable, python))
+            (place / "python3").chmod(0o755)
+        words = [shutil.which("sh"), str(common.ROOT / "programs" / "hll.sh"), "new", "a.hll"]
+        done = subprocess.run(words, cwd=self.folder, capture_output=True, text=True, env={"PATH": str(place)})
+        self.assertEqual((done.returncode, done.stdout, self.listed()), (2, "", ["bin"]))
+        return done.stderr
+
+    def test_none(self):
+        self.assertEqual(self.said(), "hll: it needs Python 3.9 or later, which is not here: apt-get install python3\n")
+
+    # a Python that runs what it is given as another one would
+    OTHER = "import sys\nsys.argv[:] = ['-c', *sys.argv[3:]]\n%s\nexec(%r)\n"
+
+    def other(self, before):
+        code = (common.ROOT / "programs" / "hll.sh").read_text().split("-c '")[1].split("' \"$top")[0]
+        return self.said(self.OTHER % (before, code))
+
+    def test_an_old_one(self):
+        self.assertEqual(self.other("sys.version_info = (3, 8, 9)"), "hll: it needs Python 3.9 or later, and python3 is 3.8\n")
+
+    def test_a_minimal_one(self):
+        """As of Debian's package python3-minimal."""
+        told = self.other("sys.modules['ctypes'] = None")
+        self.assertEqual(told, "hll: python3 has no module ctypes: apt-get install python3\n")
 
 
 @unittest.skipIf(os.uname().machine != "x86_64", "this is no x86 processor")

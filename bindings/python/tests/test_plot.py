@@ -1,12 +1,16 @@
 # SPDX-License-Identifier: Apache-2.0
 """`hll plot`: a well-formed picture of the histogram, and a theory that sketches follow."""
 import math
+import os
+import struct
+import subprocess
 import unittest
 import xml.etree.ElementTree as ElementTree
 
 import common  # noqa: F401, for the path
-from command import CommandTest, TRUNCATED
+from command import COMMAND, CommandTest, TRUNCATED, environment
 from hll_sketches import Sketch, plot
+from test_package import SYSTEM, has, plain_environment
 
 SVG = "{http://www.w3.org/2000/svg}"
 
@@ -64,9 +68,59 @@ class PictureTest(CommandTest):
         self.assertIn("more values than can be estimated", parts(data, "text", "title")[0].text)
 
     def test_refusals(self):
-        self.write("a.hll", b"no")
+        self.write("a.hll", Sketch().to_bytes()[:5])
         self.fails(1, [f"a.hll: {TRUNCATED}"], "plot", "a.hll", "-o", "a.svg")
+        for name in ("a.pdf", "a", "a.svg.gz", "svg", "a.hll"):
+            status, out, err = self.run_hll("plot", "a.hll", "-o", name)
+            self.assertEqual((status, out), (2, b""))
+            self.assertIn(f"a picture is a file .svg or .png, or - for an SVG, not '{name}'\n", err)
         self.assertEqual(self.listed(), ["a.hll"])
+
+    def test_png(self):
+        """By cairosvg, of which this is a stand-in: it is given the same SVG, and what it makes is written."""
+        self.write("a.hll", Sketch().to_bytes())
+        svg = self.succeeds("plot", "a.hll", "-o", "-")
+        self.write("stub/cairosvg.py", b"def svg2png(bytestring, scale): return b'PNG %d ' % scale + bytestring")
+        path = {"PYTHONPATH": os.pathsep.join([str(self.folder / "stub"), str(common.PACKAGE)])}
+        for name in ("a.png", "A.PNG"):
+            done = subprocess.run([*COMMAND, "plot", "a.hll", "-o", name], cwd=self.folder, capture_output=True,
+                                  env=dict(environment(), **path))
+            self.assertEqual((done.returncode, done.stdout, done.stderr), (0, b"", b""))
+            self.assertEqual(self.read(name), b"PNG 2 " + svg)
+
+    def test_png_without_its_package(self):
+        self.write("a.hll", Sketch().to_bytes())
+        for stub, why in (("raise ImportError('no such module')", "no such module"), ("raise OSError('no libcairo')", "no libcairo")):
+            self.write("stub/cairosvg.py", stub.encode())
+            path = {"PYTHONPATH": os.pathsep.join([str(self.folder / "stub"), str(common.PACKAGE)])}
+            done = subprocess.run([*COMMAND, "plot", "a.hll", "-o", "a.png"], cwd=self.folder, capture_output=True,
+                                  text=True, env=dict(environment(), **path))
+            wanted = f"hll: a.png: a PNG needs the Python package cairosvg, in Debian python3-cairosvg ({why}): write an SVG\n"
+            self.assertEqual((done.returncode, done.stdout, done.stderr), (2, "", wanted))
+        self.assertEqual(self.listed(), ["a.hll", "stub"])
+
+    def test_png_of_cairosvg(self):
+        """The package itself, by the system's Python if it has the package."""
+        if not has(SYSTEM, "cairosvg"):
+            self.skipTest("cairosvg is not here")
+        made = Sketch(10)
+        made.update_many(range(30_000))
+        self.write("a.hll", made.to_bytes())
+        done = subprocess.run([SYSTEM, "-m", "hll_sketches", "plot", "a.hll", "-o", "a.png"], cwd=self.folder,
+                              capture_output=True, env=plain_environment(PYTHONPATH=str(common.PACKAGE)))
+        self.assertEqual((done.returncode, done.stdout, done.stderr), (0, b"", b""))
+        data = self.read("a.png")
+        self.assertEqual((data[:8], data[12:16]), (b"\x89PNG\r\n\x1a\n", b"IHDR"))
+        self.assertEqual(struct.unpack(">2I", data[16:24]), (2 * plot.WIDTH, 2 * plot.HEIGHT))
+
+    def test_pipe(self):
+        """A pipe has any name, and gets an SVG."""
+        self.write("a.hll", Sketch().to_bytes())
+        os.mkfifo(self.folder / "pipe")
+        place = os.open(self.folder / "pipe", os.O_RDWR)
+        self.addCleanup(os.close, place)
+        self.succeeds("plot", "a.hll", "-o", "pipe")
+        self.assertEqual(os.read(place, 1 << 16), self.succeeds("plot", "a.hll", "-o", "-"))
 
 
 class TheoryTest(unittest.TestCase):

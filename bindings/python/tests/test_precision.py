@@ -12,7 +12,7 @@ import unittest
 import warnings
 
 import common  # noqa: F401, for the path
-from command import CommandTest, TRUNCATED
+from command import CUT, CommandTest, TRUNCATED
 from hll_sketches import FilesError, ImageError, PrecisionError, Sketch, SketchUnion, _library
 from hll_sketches import is_image, merge_files, union_of
 from hll_sketches.layout import holds_values
@@ -310,7 +310,7 @@ class MergeFilesTest(CommandTest):
 
     def test_refusals(self):
         paths = self.paths(FINE, FINE)
-        bad, gone = self.write("all/bad", b"no"), self.folder / "gone"
+        bad, gone = self.write("all/bad", CUT), self.folder / "gone"
         wanted = [(str(gone), "No such file or directory"), (str(bad), TRUNCATED)]
         given, seen = [gone, *paths, bad], []
         with self.assertRaises(FilesError) as caught:

@@ -8,7 +8,7 @@ import sys
 import unittest
 
 import common
-from command import COMMAND, CommandTest, TRUNCATED, environment
+from command import COMMAND, CUT, CommandTest, TRUNCATED, environment
 from hll_sketches import Sketch
 
 README = common.PACKAGE / "README.md"
@@ -108,7 +108,7 @@ class ExampleTest(CommandTest):
         self.assertEqual(self.succeeds("estimate", "out.hll"), b"3\n")
 
     def test_refuses(self):
-        self.write("none.hll", b"no")
+        self.write("none.hll", CUT)
         self.assertEqual(self.example("out.hll", "none.hll"), (1, "", f"none.hll: {TRUNCATED}\n"))
         self.assertEqual(self.example(), (1, "", "usage: merge.py OUT FILE..\n"))
         self.assertEqual(self.listed(), ["none.hll"])

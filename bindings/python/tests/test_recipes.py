@@ -2,6 +2,7 @@
 """The blocks of docs/RECIPES.md for a shell and for Python are run as they stand, in one folder
 and in their order, and print what the page shows. Its SQL is run by the tests of PostgreSQL."""
 import os
+import pathlib
 import re
 import shlex
 import shutil
@@ -17,6 +18,8 @@ LIBRARY = common.ROOT / "bindings" / "c" / "build" / "libhll.a"
 HLL = shlex.join(COMMAND)
 MEASURED = "/proc/self/statm"
 """A block that has this prints numbers which depend on the machine."""
+STAND_IN = pathlib.Path(__file__).resolve().parent / "stand_in"
+"""A package for the blocks that need pyarrow, where it isn't installed."""
 KINDS = {"c", "console", "crontab", "makefile", "python", "sql"}
 
 
@@ -43,6 +46,10 @@ def python_with_dask():
         if os.path.exists(python) and subprocess.run(tried, capture_output=True).returncode == 0:
             return python
     return None
+
+
+def has_pyarrow(python):
+    return subprocess.run([python, "-c", "import pyarrow.parquet"], capture_output=True).returncode == 0
 
 
 class PageTest(unittest.TestCase):
@@ -96,6 +103,9 @@ class RecipesTest(CommandTest):
         if LIBRARY.name in code and not (LIBRARY.exists() and shutil.which("cc")):
             print("docs/RECIPES.md, C: skipped, as bindings/c is not built or cc is not here")
             return
+        if "$ sqlite3 " in code and not shutil.which("sqlite3"):
+            print("docs/RECIPES.md, SQLite: skipped, as the command sqlite3 is not here")
+            return
         for part in re.split(r"^\$ ", code, flags=re.M)[1:]:
             command, _, shown = part.partition("\n")
             self.assertEqual(self.shell(command), shown, command)
@@ -108,6 +118,10 @@ class RecipesTest(CommandTest):
         self.write("recipe.py", code.encode())
         # A process begins with its parent's peak of memory, which the page measures: so a shell starts it.
         command = f"{shlex.quote(python)} -B recipe.py; exit $?"
+        if "pyarrow" in code and not has_pyarrow(python):
+            print("docs/RECIPES.md, Arrow: run with a stand-in for pyarrow, which is not here")
+            path = os.pathsep.join([str(STAND_IN), self.environment["PYTHONPATH"]])
+            command = f"PYTHONPATH={shlex.quote(path)} {command}"
         done = self.output("sh", "-c", command, stderr=subprocess.PIPE)          # Dask logs there
         self.assertEqual(done.returncode, 0, done.stderr)
         compare = self.assert_near if MEASURED in code else self.assertEqual

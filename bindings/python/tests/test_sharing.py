@@ -2,6 +2,7 @@
 """Copies, forks and threads: each has its own state, and no lock is left held; and what sketches
 take of memory."""
 import copy
+import ctypes
 import io
 import os
 import pickle
@@ -18,7 +19,8 @@ from array import array
 from unittest import mock
 
 import common
-from hll_sketches import Sketch, SketchUnion, _library, _locks, coupons, union_of
+from hll_sketches import ArgumentError, ImageError, PrecisionError, Sketch, SketchUnion
+from hll_sketches import _library, _locks, coupons, union_of
 from long_searches import stride_coupons, unsorted_set
 
 
@@ -77,8 +79,154 @@ class UnionMemoryTest(unittest.TestCase):
                 union.update_many([part, part.to_bytes()])
                 union.update(part)
                 self.assertEqual(union.sketch(), part)
-                room = len(union._state._memory)
+                room = union._state._counter.room
                 self.assertLessEqual(room, 2 * len(part.to_bytes()) + 100, count)
+
+
+class Allocator:
+    """The memory of counters: what is allocated, and the number of the request that fails."""
+
+    def __init__(self):
+        self.fails_at, self.requests, self.blocks = 0, 0, {}
+        kind = ctypes.CFUNCTYPE(ctypes.c_void_p, ctypes.c_void_p, ctypes.c_void_p, ctypes.c_size_t)
+        self.function = kind(self.resize)
+
+    def resize(self, _, memory, size):
+        if size == 0:
+            self.blocks.pop(memory, None)
+            return None
+        self.requests += 1
+        if self.requests == self.fails_at:
+            return None
+        block = (ctypes.c_uint8 * size)()
+        old = self.blocks.get(memory)
+        if old is not None:
+            ctypes.memmove(block, old, min(size, len(old)))
+            del self.blocks[memory]
+        place = ctypes.addressof(block)
+        self.blocks[place] = block
+        return place
+
+    def used(self):
+        """In place of that of malloc, meanwhile."""
+        return mock.patch.object(_library, "ALLOCATOR", self.function)
+
+
+def counter_bytes(union):
+    """The counter of a union, and its state."""
+    counter = union._state._counter
+    state = ctypes.string_at(counter.state, counter.room) if counter.state else b""
+    return bytes(counter), state
+
+
+class CounterTest(unittest.TestCase):
+    """The memory of a union is that of a counter of the library."""
+
+    PARTS = [sketch(range(n * 1000, n * 1000 + count)) for n, count in enumerate((5, 40, 300, 9000, 7, 0))]
+
+    def test_memory_is_given_back(self):
+        memory = Allocator()
+        with memory.used():
+            for copied in COPIES:
+                union = SketchUnion(12)
+                for part in self.PARTS:
+                    union.update(part)
+                union.update_values(range(70000, 70020))
+                other = copied(union)
+                other.update(sketch(range(50)))
+                union.reset()
+                self.assertEqual(len(memory.blocks), 1)     # of the copy, as nothing was merged since
+                self.assertRaises(ImageError, union.update, b"none")
+                del union, other
+                self.assertEqual(memory.blocks, {})
+            union_of(self.PARTS, 11)
+            self.assertRaises(PrecisionError, union_of, [*self.PARTS, sketch(range(9), 11)])
+        self.assertEqual(memory.blocks, {})
+        self.assertGreater(memory.requests, 40)
+
+    def calls_of(self, union):
+        """Calls that allocate."""
+        calls = [lambda part=part: union.update(part) for part in self.PARTS]
+        calls += [lambda: union.update_many(self.PARTS[1:]), lambda: union.update_values(range(40))]
+        return calls + [union.estimate, union.copy, lambda: pickle.loads(pickle.dumps(union))]
+
+    def images_of(self, width):
+        """The images of a union before these calls, and after each."""
+        union = SketchUnion(12, width)
+        images = [union.to_bytes()]
+        for call in self.calls_of(union):
+            call()
+            images.append(union.to_bytes())
+        return images
+
+    def failed(self, at, width, images):
+        """Makes the calls while this allocation fails. Returns how many there were, and how many calls
+        failed: none if less memory was asked for, which the union can do without."""
+        memory, failures = Allocator(), 0
+        memory.fails_at = at
+        with memory.used():
+            union = SketchUnion(12, width)
+            for call, before, after in zip(self.calls_of(union), images, images[1:]):
+                count = union._state.count
+                try:
+                    call()
+                except MemoryError:
+                    failures += 1
+                    self.assertEqual((union.to_bytes(), union._state.count), (before, count))
+                    call()
+                self.assertEqual(union.to_bytes(), after)
+            del union, call
+        self.assertEqual(memory.blocks, {})
+        return memory.requests, failures
+
+    def test_each_allocation_fails(self):
+        """The call raises MemoryError and changes nothing, and does its work when it is made again."""
+        for width in (None, 4):
+            images = self.images_of(width)
+            requests, failures = self.failed(0, width, images)
+            self.assertEqual(failures, 0)
+            failures = [self.failed(at, width, images)[1] for at in range(1, requests + 1)]
+            self.assertLessEqual(set(failures), {0, 1})
+            self.assertGreater(sum(failures), 6)
+
+    def test_readers_change_nothing(self):
+        for count in (0, 5, 40, 300, 9000):
+            for bound in (None, 12):
+                union = SketchUnion(bound)
+                for start in (5000, 0):
+                    union.update(sketch(range(start, start + count)))
+                before = counter_bytes(union)
+                union.estimate(), union.bounds(), union.is_empty, union.lg_k, copy.copy(union)
+                self.assertEqual(counter_bytes(union), before)
+                image, estimate = union.to_bytes(), union.estimate()
+                before = counter_bytes(union)       # memory that was not needed is given back
+                union.sketch(), pickle.dumps(union), repr(union)
+                self.assertEqual(counter_bytes(union), before)
+                self.assertEqual((union.to_bytes(), union.estimate()), (image, estimate))
+
+    def test_threads_read_at_once(self):
+        union = SketchUnion(12)
+        for part in self.PARTS[:3]:
+            union.update(part)
+        wanted, found = (union.to_bytes(), union.estimate()), []
+
+        def read():
+            found.extend((union.to_bytes(), union.estimate()) for _ in range(200))
+
+        readers = [threading.Thread(target=read) for _ in range(4)]
+        for one in readers:
+            one.start()
+        for one in readers:
+            one.join()
+        self.assertEqual(found, [wanted] * 800)
+
+    def test_a_union_that_never_began(self):
+        """Its allocator is not there, so nothing is freed."""
+        union = SketchUnion.__new__(SketchUnion)
+        del union
+        with mock.patch.object(_library, "_ensure", side_effect=MemoryError):
+            self.assertRaises(MemoryError, SketchUnion)
+        self.assertRaises(ArgumentError, SketchUnion, 3)
 
 
 class WaitingTest(unittest.TestCase):

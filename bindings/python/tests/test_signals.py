@@ -1,5 +1,6 @@
 # SPDX-License-Identifier: Apache-2.0
 """Signals end `hll` at once, also inside a call of the library, and leave nothing behind."""
+import functools
 import os
 import pathlib
 import random
@@ -25,6 +26,7 @@ NO_LINKS = "import os; del os.O_TMPFILE\n"
 """Before that: files have names from the start, as on some systems."""
 
 ENDS_AT = """
+import functools
 import os
 real = os.{step}
 
@@ -236,8 +238,9 @@ class WritingTest(CommandTest):
 class DiskTest(CommandTest):
     """A file is on the disk before it gets its name, and then the name is."""
 
-    def steps_of_write(self, data):
+    def steps_of_write(self, data, call=None):
         """The calls that write a file, in turn, each with what it meets."""
+        call = call or functools.partial(files.write_file, data=data)
         steps, fsync, replace = [], os.fsync, os.replace
 
         def seen_fsync(place):
@@ -251,9 +254,23 @@ class DiskTest(CommandTest):
 
         with mock.patch.object(os, "fsync", seen_fsync), \
                 mock.patch.object(os, "replace", seen_replace):
-            files.write_file(str(self.folder / "a.hll"), data)
+            call(str(self.folder / "a.hll"))
         self.assertEqual((self.read("a.hll"), self.listed()), (data, ["a.hll"]))
         return steps
+
+    def test_without_a_sync(self):
+        """The file is replaced as a whole, and nothing waits for the disk."""
+        sketch = Sketch(8)
+        sketch.update_many(range(3000))
+        image = sketch.to_bytes()
+        wanted = [f"{len(image)} bytes", "name", "folder"]
+        for flag in (os.O_TMPFILE, 0):
+            with mock.patch.object(os, "O_TMPFILE", flag):
+                self.assertEqual(self.steps_of_write(image, functools.partial(sketch.write, sync=False)), ["name"])
+                self.assertEqual(self.steps_of_write(image, functools.partial(sketch.write, sync=True)), wanted)
+                self.assertEqual(self.steps_of_write(image, sketch.write), wanted)
+                self.assertEqual(self.steps_of_write(b"new", functools.partial(files.write_file, data=b"new", sync=files.CONTENTS)),
+                                 ["3 bytes", "name"])
 
     def test_by_link_and_by_name(self):
         wanted = ["3000 bytes", "name", "folder"]

@@ -85,12 +85,12 @@ impl Hasher for Collector {
     }
 }
 
-/// The raw coupon of what the value's `Hash` writes; `None` if an allocation failed.
+/// What a call returns for the bytes that the value's `Hash` writes; `None`, without a call, if an allocation failed.
 #[inline]
-pub(crate) fn coupon_of<T: Hash>(value: T) -> Option<u32> {
+pub(crate) fn with_bytes_of<T: Hash, R>(value: T, call: impl FnOnce(&[u8]) -> R) -> Option<R> {
     let mut collector = Collector::new();
     value.hash(&mut collector);
-    (!collector.has_failed).then(|| libhll::coupon(collector.bytes()))
+    (!collector.has_failed).then(|| call(collector.bytes()))
 }
 
 /// Wrappers whose `Hash` writes the bytes that other languages hash.

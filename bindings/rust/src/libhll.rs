@@ -6,6 +6,7 @@
 //! overlaps nothing; and no input changes while a call runs, because it is borrowed.
 
 use std::ffi::c_void;
+use std::mem::{size_of, MaybeUninit};
 use std::os::raw::c_uint;
 
 use crate::common::Estimation;
@@ -18,12 +19,6 @@ pub(crate) const ARGUMENT: Status = 12;
 pub(crate) const MEMORY: Status = 13;
 pub(crate) const BUFFER: Status = 14;
 pub(crate) const OTHER_LG_K: Status = 16;
-
-/// `HLL_STATE_NEW`.
-pub(crate) const STATE_NEW: usize = 40;
-
-/// The first number of a state that has registers.
-const REGISTERS: u32 = 0x4c48_4c42;
 
 /// A `hll_bytes`.
 #[repr(C)]
@@ -69,39 +64,31 @@ calls! {
     ) -> Status;
     "hll_0_2_hip_estimate" fn hll_hip_estimate(image: *const u8, len: usize, found: *mut Estimation) -> Status;
     "hll_0_2_coupon" fn hll_coupon(value: *const u8, len: usize) -> u32;
-    "hll_0_2_state_new" fn hll_state_new(lg_k: c_uint, state: *mut c_void, room: usize) -> Status;
-    "hll_0_2_state_add_coupons" fn hll_state_add_coupons(
-        state: *mut c_void,
-        room: usize,
-        size: *mut usize,
-        coupons: *const u32,
-        n: usize
+    "hll_0_2_counter_init" fn hll_counter_init(
+        counter: *mut Counter,
+        lg_k: c_uint,
+        resize: Option<Resize>,
+        context: *mut c_void
     ) -> Status;
-    "hll_0_2_state_join" fn hll_state_join(
-        lg_max_k: c_uint,
-        state: *mut c_void,
-        room: usize,
-        size: *mut usize,
-        image: *const u8,
-        len: usize
-    ) -> Status;
-    "hll_0_2_state_join_state" fn hll_state_join_state(
-        lg_max_k: c_uint,
-        state: *mut c_void,
-        room: usize,
-        size: *mut usize,
-        other: *mut c_void,
-        other_room: usize
-    ) -> Status;
-    "hll_0_2_state_image" fn hll_state_image(
-        state: *mut c_void,
-        room: usize,
+    "hll_0_2_counter_free" fn hll_counter_free(counter: *mut Counter) -> ();
+    "hll_0_2_counter_add" fn hll_counter_add(counter: *mut Counter, value: *const u8, len: usize) -> Status;
+    "hll_0_2_counter_add_coupons" fn hll_counter_add_coupons(counter: *mut Counter, coupons: *const u32, n: usize) -> Status;
+    "hll_0_2_counter_join" fn hll_counter_join(counter: *mut Counter, image: *const u8, len: usize) -> Status;
+    "hll_0_2_counter_join_counter" fn hll_counter_join_counter(counter: *mut Counter, other: *const Counter) -> Status;
+    "hll_0_2_counter_copy" fn hll_counter_copy(to: *mut Counter, from: *const Counter) -> Status;
+    "hll_0_2_counter_image" fn hll_counter_image(
+        counter: *const Counter,
         width: c_uint,
         out: *mut u8,
-        out_room: usize,
+        room: usize,
         size: *mut usize
     ) -> Status;
-    "hll_0_2_state_estimate" fn hll_state_estimate(state: *mut c_void, room: usize, found: *mut Estimation) -> Status;
+    "hll_0_2_counter_estimate" fn hll_counter_estimate(counter: *const Counter, found: *mut Estimation) -> Status;
+    "hll_0_2_counter_info" fn hll_counter_info(
+        counter: *const Counter,
+        summary: *mut Summary,
+        summary_size: usize
+    ) -> Status;
 }
 
 pub(crate) fn checked(status: Status) -> Result<(), Status> {
@@ -174,91 +161,125 @@ pub(crate) fn coupon(value: &[u8]) -> u32 {
     unsafe { hll_coupon(value.as_ptr(), value.len()) }
 }
 
-// ---- states: calls that may ask for more room return it next to the status
+// ---- counters
 
-pub(crate) fn state_new(lg_k: u8, state: &mut [u8]) -> Result<(), Status> {
-    checked(unsafe { hll_state_new(lg_k.into(), state.as_mut_ptr().cast(), state.len()) })
+/// A `hll_resize`.
+type Resize = unsafe extern "C" fn(context: *mut c_void, memory: *mut c_void, size: usize) -> *mut c_void;
+
+/// A `hll_counter`, whose memory is from malloc.
+#[repr(C)]
+pub(crate) struct Counter {
+    _state: *mut u8,
+    room: usize,
+    _spare: *mut u8,
+    _resize: Option<Resize>,
+    _context: *mut c_void,
+    _lg_k: u8,
+    lg_max_k: u8,
+    _flags: [u8; 3],
+    _n_waiting: u8,
+    _waiting: [u32; 16],
 }
 
-/// Adds raw coupons, of a value of at least 1.
-#[inline]
-pub(crate) fn state_add(state: &mut [u8], coupons: &[u32]) -> (Status, usize) {
-    let mut size = 0;
-    let status = unsafe {
-        let (bytes, room) = (state.as_mut_ptr().cast(), state.len());
-        hll_state_add_coupons(bytes, room, &mut size, coupons.as_ptr(), coupons.len())
-    };
-    (status, size)
+// SAFETY: a counter and its memory belong to no thread, and calls through a shared reference change nothing (hll.h, "counters").
+unsafe impl Send for Counter {}
+unsafe impl Sync for Counter {}
+
+/// What a counter is (`hll_state_summary`).
+#[repr(C)]
+#[derive(Clone, Copy, Default)]
+pub(crate) struct Summary {
+    /// The bytes of its state, with what waits.
+    pub(crate) size: u64,
+    pub(crate) lg_k: u8,
+    pub(crate) width: u8,
+    _stage: u8,
+    empty: u8,
+    open: u8,
 }
 
-pub(crate) fn state_join(lg_max_k: u8, state: &mut [u8], image: &[u8]) -> (Status, usize) {
-    let mut size = 0;
-    let status = unsafe {
-        let (bytes, room) = (state.as_mut_ptr().cast(), state.len());
-        hll_state_join(lg_max_k.into(), bytes, room, &mut size, image.as_ptr(), image.len())
-    };
-    (status, size)
-}
+impl Summary {
+    pub(crate) fn is_empty(self) -> bool {
+        self.empty == 1
+    }
 
-/// Merges another state, whose bytes may change.
-pub(crate) fn state_join_state(lg_max_k: u8, state: &mut [u8], other: &mut [u8]) -> (Status, usize) {
-    let mut size = 0;
-    let status = unsafe {
-        let (bytes, room) = (state.as_mut_ptr().cast(), state.len());
-        hll_state_join_state(lg_max_k.into(), bytes, room, &mut size, other.as_mut_ptr().cast(), other.len())
-    };
-    (status, size)
-}
-
-/// The image of a state, whose bytes may change.
-pub(crate) fn state_image(state: &mut [u8], width: u8) -> Result<Vec<u8>, Status> {
-    let (bytes, len) = (state.as_mut_ptr(), state.len());
-    written(len, |out, room, size| unsafe { hll_state_image(bytes.cast(), len, width.into(), out, room, size) })
-}
-
-/// The estimate of a state, whose bytes may change.
-pub(crate) fn state_estimate(state: &mut [u8]) -> Result<Estimation, Status> {
-    let mut found = Estimation::default();
-    checked(unsafe { hll_state_estimate(state.as_mut_ptr().cast(), state.len(), &mut found) })?;
-    Ok(found)
-}
-
-// ---- the inline functions of hll.h, of a state
-
-fn number(state: &[u8], at: usize) -> u32 {
-    let mut bytes = [0; 4];
-    bytes.copy_from_slice(&state[4 * at..4 * at + 4]);
-    u32::from_le_bytes(bytes)
-}
-
-/// `hll_state_lg_k`.
-pub(crate) fn state_lg_k(state: &[u8]) -> u8 {
-    (number(state, 1) & 31) as u8
-}
-
-/// `hll_state_width`.
-pub(crate) fn state_width(state: &[u8]) -> u8 {
-    match number(state, 2) & 7 {
-        1 => 4,
-        2 => 6,
-        _ => 8,
+    /// Whether its `lg_k` is not decided.
+    pub(crate) fn is_open(self) -> bool {
+        self.open == 1
     }
 }
 
-/// Whether `hll_state_stage` is `HLL_REGISTERS`.
-pub(crate) fn state_has_registers(state: &[u8]) -> bool {
-    number(state, 0) == REGISTERS
+impl Counter {
+    /// An empty counter of an `lg_k` that is known to be 4 to 21, or 0 for one that is open.
+    #[inline]
+    pub(crate) fn new(lg_k: u8) -> Self {
+        let mut made = MaybeUninit::uninit();
+        let status = unsafe { hll_counter_init(made.as_mut_ptr(), lg_k.into(), None, std::ptr::null_mut()) };
+        assert!(status == OK, "the lg_k was checked");
+        unsafe { made.assume_init() }
+    }
+
+    pub(crate) fn info(&self) -> Summary {
+        let mut said = Summary::default();
+        let status = unsafe { hll_counter_info(self, &mut said, size_of::<Summary>()) };
+        debug_assert!(status == OK, "the sizes agree");
+        said
+    }
+
+    /// The bytes of the heap that it has allocated.
+    pub(crate) fn allocated(&self) -> usize {
+        self.room
+    }
+
+    pub(crate) fn try_clone(&self) -> Result<Self, Status> {
+        let mut copy = Self::new(self.lg_max_k);
+        checked(unsafe { hll_counter_copy(&mut copy, self) })?;
+        Ok(copy)
+    }
+
+    /// Adds a value by its bytes.
+    #[inline]
+    pub(crate) fn add_value(&mut self, value: &[u8]) -> Result<(), Status> {
+        checked(unsafe { hll_counter_add(self, value.as_ptr(), value.len()) })
+    }
+
+    /// Adds a raw coupon, of a value of at least 1.
+    #[inline]
+    pub(crate) fn add(&mut self, coupon: u32) -> Result<(), Status> {
+        checked(unsafe { hll_counter_add_coupons(self, &coupon, 1) })
+    }
+
+    pub(crate) fn join(&mut self, image: &[u8]) -> Result<(), Status> {
+        checked(unsafe { hll_counter_join(self, image.as_ptr(), image.len()) })
+    }
+
+    pub(crate) fn join_counter(&mut self, other: &Self) -> Result<(), Status> {
+        checked(unsafe { hll_counter_join_counter(self, other) })
+    }
+
+    pub(crate) fn image(&self, width: u8) -> Result<Vec<u8>, Status> {
+        let size = self.info().size as usize;
+        written(size, |out, room, size| unsafe { hll_counter_image(self, width.into(), out, room, size) })
+    }
+
+    pub(crate) fn estimation(&self) -> Result<Estimation, Status> {
+        let mut found = Estimation::default();
+        checked(unsafe { hll_counter_estimate(self, &mut found) })?;
+        Ok(found)
+    }
 }
 
-/// `hll_state_size`: the bytes that are to be copied.
-pub(crate) fn state_size(state: &[u8]) -> usize {
-    let (lg_k, used) = (state_lg_k(state), number(state, 6) as usize);
-    let few = if lg_k < 8 { 7 } else { 3 << (lg_k - 5) };
-    if state_has_registers(state) {
-        STATE_NEW + (1 << lg_k)
-    } else if used <= few {
-        STATE_NEW + 4 * used
-    } else {
-        STATE_NEW + (1 << lg_k) + if lg_k < 7 { 64 } else { 1 << (lg_k - 1) }
+impl Drop for Counter {
+    fn drop(&mut self) {
+        unsafe { hll_counter_free(self) }
+    }
+}
+
+#[cfg(test)]
+mod tests {
+    #[test]
+    #[cfg(target_pointer_width = "64")]
+    fn a_counter_has_the_size_that_it_has_in_c() {
+        assert_eq!(std::mem::size_of::<super::Counter>(), 112); // counter.c asserts it
     }
 }

@@ -88,8 +88,8 @@ fn reads() {
         let image = sketch.serialize();
         let is_unchanged = || sketch.serialize() == image;
         assert_eq!(fail_each(|| sketch.try_clone(), is_unchanged), usize::from(n > 16));
-        assert!(fail_each(|| sketch.try_serialize(), is_unchanged) >= 3); // a copy, the library's image, and the answer
-        assert!(fail_each(|| sketch.try_estimation(), is_unchanged) >= 1);
+        assert!(fail_each(|| sketch.try_serialize(), is_unchanged) >= 2); // the library's image, and the answer
+        assert_eq!(fail_each(|| sketch.try_estimation(), is_unchanged), 0);
         assert!(fail_each(|| HllSketch::deserialize(&image), is_unchanged) >= 1);
         assert!(fail_each(|| union_of([&image, &image]), is_unchanged) >= 1);
         assert!(fail_each(|| merge_images(12, HllType::Hll8, &[&image, &image]), is_unchanged) >= 3);

@@ -23,7 +23,7 @@ const SIZES: [usize; 7] = [
 
 #[test]
 fn sizes_of_shared_types() {
-    assert!(SIZES.iter().all(|&size| 0 < size && size <= 104), "{SIZES:?}");
+    assert!(SIZES.iter().all(|&size| 0 < size && size <= 120), "{SIZES:?}");
 }
 
 fn filled(values: std::ops::Range<u64>) -> HllSketch {
@@ -32,22 +32,28 @@ fn filled(values: std::ops::Range<u64>) -> HllSketch {
     sketch
 }
 
-/// Threads read one sketch at once. Each reads what one thread alone read.
+/// Threads read one sketch and one union at once, with coupons that wait and without. Each reads what one thread alone read.
 #[test]
 fn one_sketch_is_read_by_many() {
-    for n in [3, 30, 300, 30_000] {
+    for n in [0, 3, 16, 17, 30, 300, 390, 500, 30_000] {
         let (sketch, other) = (filled(0..n), filled(n / 2..2 * n));
         let (image, found, both) = (sketch.serialize(), sketch.estimation(), filled(0..2 * n));
+        let mut all = HllUnion::new(12).unwrap();
+        all.update(&sketch);
+        all.update(&other);
+        let estimate = all.clone().estimate();
         thread::scope(|scope| {
             for _ in 0..8 {
                 scope.spawn(|| {
                     for _ in 0..100 {
                         assert_eq!(sketch.serialize(), image);
                         assert_eq!(sketch.estimation(), found);
+                        assert_eq!((sketch.clone(), sketch.is_empty()), (sketch.clone(), n == 0));
                         let mut union = HllUnion::new(12).unwrap();
                         union.update(&sketch);
                         union.update(&other);
                         assert_eq!(union.to_sketch(HllType::Hll4), both);
+                        assert_eq!((all.to_sketch(HllType::Hll4), all.estimate()), (both.clone(), estimate));
                     }
                 });
             }

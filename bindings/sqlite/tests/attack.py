@@ -3,7 +3,7 @@
 import threading
 import time
 
-from base import ask, connect, said_by
+from base import FINDING, ask, connect, said_by
 from images import image_of_values, length_of
 from mutants import KINDS, Mutants
 from plain_reader import answer
@@ -28,7 +28,7 @@ def mutants():
             for call in ("hll_convert(?, 4)", "hll_estimate(?)", "hll_image_union_agg(?)", "hll_info(?)"):
                 said = said_by("SELECT " + call, image)
                 ends = {"accepted": said == "", "trailing": " it (hll_merge merges" in said}
-                check("%s of a mutant" % call, ends.get(word, said.endswith(": " + word)), (said, word))
+                check("%s of a mutant" % call, ends.get(word, said.endswith(": %s (%s)" % (word, FINDING))), (said, word))
 
 
 def interrupts():

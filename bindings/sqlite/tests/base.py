@@ -40,6 +40,14 @@ def refused(name, wanted, sql, *arguments):
     check(name, said == wanted, "%r in place of %r" % (said, wanted))
 
 
+FINDING = "SELECT .. WHERE NOT hll_is_image(image) finds such rows"
+
+
+def rejected(name, wanted, sql, *arguments):
+    """That a query is refused for an image, with the query that finds such images."""
+    refused(name, "%s (%s)" % (wanted, FINDING), sql, *arguments)
+
+
 def rows_of(values):
     """A query of one column `x` over these values, and its arguments."""
     if not values:

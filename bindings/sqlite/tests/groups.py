@@ -1,9 +1,10 @@
 # SPDX-License-Identifier: Apache-2.0
 """Aggregates over groups: beside unions of the Python package; what lowers an lg_k, NULLs, options, rows and windows."""
+import collections
 import random
 import struct
 
-from base import ask, db, plain, refused, table_of
+from base import ask, db, plain, refused, rejected, table_of
 from calls import GOOD, bad_images
 from hll_sketches import Sketch, union_of
 from images import image_of, image_of_coupons, image_of_values, is_empty, merged, random_coupons, random_image
@@ -109,7 +110,8 @@ def lg_k():
         equal("union of lg_k %s" % [image[3] for image in images], plain(found), plain(wanted))
 
 
-OTHERS = "sketches of lg_k %d and %d (%s %d) can't be merged without a bound: %s, %d) merges them at lg_k %d"
+OTHERS = ("sketches of lg_k %d and %d can't be merged without a bound: %s, %d) merges them at lg_k %d "
+          "(SELECT json_extract(hll_info(image), '$.lg_k'), count(*) .. GROUP BY 1 counts the sketches of each lg_k)")
 
 
 def sizes():
@@ -143,9 +145,12 @@ def different_sizes(full, empty):
         a, b = [NUMBERS.choice([image for image in full[lg_k] if not is_empty(image)]) for lg_k in (small, large)]
         least = min(small, large)
         rows = [None, NUMBERS.choice(empty), a, a, None, b, a]
-        refused("a union of different lg_k", OTHERS % (small, large, "row", 6, "hll_image_union_agg(image", least, least),
+        refused("a union of different lg_k", OTHERS % (small, large, "hll_image_union_agg(image", least, least),
                 "SELECT hll_image_union_agg(x) FROM " + table_of(rows))
-        refused("a merge of different lg_k", OTHERS % (small, large, "argument", 2, "hll_merge(a, b", least, least),
+        found = db.execute("SELECT json_extract(hll_info(x), '$.lg_k'), count(*) FROM temp.t WHERE x NOT NULL GROUP BY 1").fetchall()
+        counts = collections.Counter(image[3] for image in rows if image is not None)
+        equal("what the query finds", dict(found), dict(counts))
+        refused("a merge of different lg_k", OTHERS % (small, large, "hll_merge(a, b", least, least),
                 "SELECT hll_merge(?, ?)", a, b)
         for bound in (least, 12, 21):
             found = ask("SELECT hll_image_union_agg(x, ?) FROM " + table_of(rows), bound)
@@ -193,19 +198,20 @@ def options():
                     "SELECT %s(NULL, %s) FROM (SELECT 10 AS n UNION ALL SELECT 8)" % (name, arguments))
     refused("four arguments", "wrong number of arguments to function hll_image_add_agg()", "SELECT hll_image_add_agg(1, 2, 3, 4)")
     refused("no argument", "wrong number of arguments to function hll_image_union_agg()", "SELECT hll_image_union_agg()")
-    refused("a text for an image", "an HLL image must be a blob", "SELECT hll_image_union_agg('a')")
+    rejected("a text for an image", "an HLL image must be a blob", "SELECT hll_image_union_agg('a')")
 
 
 def rows():
-    """A refusal tells the row, NULLs counted, and spoils no other query."""
+    """A refusal tells the query that finds the row, and spoils no other query."""
     few = image_of_coupons(12, 8, random_coupons(NUMBERS, 3))
     for word, image in bad_images():
         for good in (GOOD, few):
             for row in (1, 2, 5, 400, 3000):
                 values = [None if n % 3 == 0 else good for n in range(row + 8)]
                 values[row - 1] = image
-                refused("row %d of %s" % (row, word), "invalid HLL image in row %d: %s" % (row, word),
-                        "SELECT hll_image_union_agg(x) FROM " + table_of(values))
+                rejected("row %d of %s" % (row, word), "invalid HLL image: " + word,
+                         "SELECT hll_image_union_agg(x) FROM " + table_of(values))
+                equal("what the query finds", db.execute("SELECT rowid FROM temp.t WHERE NOT hll_is_image(x)").fetchall(), [(row,)])
     equal("afterwards", ask("SELECT hll_image_union_agg(?)", few), few)
 
 

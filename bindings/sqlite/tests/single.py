@@ -7,7 +7,7 @@ import re
 import sqlite3
 import struct
 
-from base import ask, plain, refused
+from base import FINDING, FOLDER, ask, db, plain, refused, rejected
 from calls import GOOD, bad_images, expression_of, rows_of_calls
 from hll_sketches import Sketch, union_of
 from images import image_of, image_of_coupons, merged, random_image, sketch_of, width_of
@@ -46,7 +46,7 @@ def worked_rows():
             check(name, str(found).startswith("lg_k must be"), found)
         else:
             words.add(answer.split(" ")[-1])
-            check(name, str(found).endswith(": " + answer.split(" ")[-1]), found)
+            check(name, str(found).endswith(": %s (%s)" % (answer.split(" ")[-1], FINDING)), found)
     equal("reasons of worked rows", sorted(words & set(REASONS)), sorted(REASONS))
     check("many worked rows", len(rows) > 1500, len(rows))
 
@@ -145,9 +145,9 @@ def arguments():
             ("hll_merge(?1, ?1, 22)", "lg_max_k must be between 4 and 21, not 22"),
             ("hll_estimate_bounds(?, 4)", "deviations must be 1, 2 or 3, not 4"),
             ("hll_estimate_bounds(?, 4294967297)", "deviations must be 1, 2 or 3, not 4294967297"),
-            ("hll_estimate(hex(?))", "an HLL image must be a blob"),
-            ("hll_merge(?, 7)", "an HLL image must be a blob"),
-            ("hll_merge(7.5, ?)", "an HLL image must be a blob"),
+            ("hll_estimate(hex(?))", "an HLL image must be a blob (%s)" % FINDING),
+            ("hll_merge(?, 7)", "an HLL image must be a blob (%s)" % FINDING),
+            ("hll_merge(7.5, ?)", "an HLL image must be a blob (%s)" % FINDING),
             ("hll_set_estimator_fields(?, 1)", "wrong number of arguments to function hll_set_estimator_fields()")):
         refused(call, said, "SELECT " + call, image)
     for value in ("'text'", "7", "7.5"):
@@ -156,7 +156,18 @@ def arguments():
     trailing()
 
 
-HINT = " (hll_merge merges images, || puts one after another; hll_first_image cuts off what follows)"
+HINT = " (hll_merge merges images, || puts one after another; hll_first_image cuts off what follows; %s)" % FINDING
+
+
+def version():
+    """The version is that of the library, and is not kept in an index."""
+    header = (FOLDER.parent / "c" / "hll.h").read_text()
+    wanted = ".".join(re.search(r"#define HLL_VERSION_%s (\d+)" % part, header)[1] for part in ("MAJOR", "MINOR", "PATCH"))
+    equal("hll_version", ask("SELECT hll_version()"), wanted)
+    refused("hll_version of an image", "wrong number of arguments to function hll_version()", "SELECT hll_version(1)")
+    db.execute("CREATE TEMP TABLE versions (x)")
+    refused("an index", "non-deterministic functions prohibited in index expressions",
+            "CREATE INDEX temp.of_version ON versions (x || hll_version())")
 
 
 def trailing():
@@ -183,7 +194,7 @@ def followed(image, more):
     for call in ("hll_merge(?, ?)", "hll_merge(?, ?, 9)", "hll_agree(?, ?)"):
         for number, both in ((1, (longer, image)), (2, (image, longer))):
             refused("%s, bytes after argument %d" % (call, number), "invalid HLL image in argument %d%s" % (number, follow), "SELECT " + call, *both)
-    refused("a row with bytes after it", "invalid HLL image in row 3" + follow,
+    refused("a row with bytes after it", "invalid HLL image" + follow,
             "SELECT hll_image_union_agg(column1) FROM (VALUES (?), (NULL), (?))", image, longer)
 
 
@@ -197,9 +208,9 @@ def reasons():
     for word, image in bad_images():
         equal("hll_fault " + word, ask("SELECT hll_fault(?)", image), word)
         equal("hll_is_image of " + word, ask("SELECT hll_is_image(?)", image), 0)
-        refused("hll_first_image of " + word, "invalid HLL image: " + word, "SELECT hll_first_image(?)", image)
+        rejected("hll_first_image of " + word, "invalid HLL image: " + word, "SELECT hll_first_image(?)", image)
         for call in CALLS:
-            refused(call + " of " + word, "invalid HLL image: " + word, "SELECT " + call, image)
+            rejected(call + " of " + word, "invalid HLL image: " + word, "SELECT " + call, image)
         for call in ("hll_merge(?, ?)", "hll_merge(?, ?, 9)", "hll_agree(?, ?)"):
             for number, both in ((1, (image, GOOD)), (2, (GOOD, image))):
-                refused(call + " of " + word, "invalid HLL image in argument %d: %s" % (number, word), "SELECT " + call, *both)
+                rejected(call + " of " + word, "invalid HLL image in argument %d: %s" % (number, word), "SELECT " + call, *both)

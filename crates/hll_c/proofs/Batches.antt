@@ -1,24 +1,17 @@
 -- SPDX-License-Identifier: Apache-2.0
 -- Lemmas on byte strings that are delimited by their ends: those that are left from an index on.
-use Rattle.std.proofs.Common.{◌≡◌, ◌⊎◌, ◌↔◌, arith, Bool, true, false, ℕ, suc, ◌+◌, ◌-◌, ◌<◌, ◌≤◌, List, [], ◌∷◌, ◌++◌, length, take, drop, get_or, set, map, min, All, inl, inr, refl, sym, ◌∙◌, ap, subst, append_assoc}
+use Rattle.std.proofs.Common.{◌≡◌, ◌⊎◌, ◌↔◌, arith, Bool, true, false, ℕ, zero, suc, ◌+◌, ◌-◌, ◌<◌, ◌≤◌, List, [], ◌∷◌, ◌++◌, length, take, drop, get_or, set, map, min, All, inl, inr, refl, sym, ◌∙◌, ap, subst, append_assoc}
 use Rattle.std.proofs.lemmas.List.{map-append, length-map, take_at, drop_more, drop_all, take_more_set, length-set, drop-set-lt, take-append-drop}
 use Rattle.std.specs.Bool.{IsTrue}
 use Rattle.std.specs.Int.{w64, leading_zeros}
 use Rattle.std.proofs.lemmas.List.Elements.{All-map}
 use Rattle.hll_base.specs.Hash.{hash, default_seed}
-use Rattle.hll_base.specs.declared.error.Reason.{Reason}
 use Rattle.hll_sketch.specs.Value.{Sketch}
 use Rattle.hll_coupons.specs.Hashed.{coupon_of_bytes, coupon_of_words}
 use Rattle.hll_coupons.specs.Pair.{value_of, slot_of, pair}
 use Rattle.hll_sketch.specs.Laws.{add_in_turn}
 use Rattle.hll_sketch.proofs.Turns.{add_in_turn-append}
-use Rattle.hll_sketch.specs.Merging.{merge, merge_all, empty_union}
-use Rattle.hll_c.specs.Batches.{AreEndsFrom, AreEnds, strings_from, strings, end_from, AreReadAs, IsFirstFaulty, MayAskAt}
-use Rattle.hll_sketch.specs.Waiting.{WaitingUnion, whole_gadget, MergesInto}
-use Rattle.hll_c.specs.Steps.{MergesInAll, IsRefusedAt, FailsToMergeIn}
-use Rattle.hll_c.specs.Answers.{RefusesImages, images_fault}
-use Rattle.hll_c.specs.Calls.{AreUnionArguments, IsUnionOf}
-use Rattle.hll_c.proofs.Images.{no_fault, refuses_more_memory}
+use Rattle.hll_c.specs.Batches.{AreEndsFrom, strings_from, end_from, start_at}
 
 -- what is tested and does not hold
 pub not_so : (b : Bool) (W : Type 0) → b ≡ false → (IsTrue b ↔ W) → W → ⊥
@@ -154,83 +147,26 @@ put_all old now values ends first start i all left =
       ap (end_from start) (sym (drop_all i ends end)) ∙ left.end,
     )
 
--- ---- images, merged in turn
+-- ---- strings by their numbers
 
-pub record MergesInRest (before now : WaitingUnion) (images ends : List ℕ) (failed_old failed_now start i : ℕ) : Type 0 where
-  pub are : AreEndsFrom start (length images) (drop i ends)
-  pub bound : now.lg_max_k ≡ before.lg_max_k
-  pub untold : failed_now ≡ failed_old
-  pub rest : (ys : List Sketch) → AreReadAs (strings_from start images (drop i ends)) ys
-      → (xs : List Sketch) × AreReadAs (strings images ends) xs × (merge_all before.lg_max_k (whole_gadget now) ys ≡ merge_all before.lg_max_k (whole_gadget before) xs)
-  pub faulty : (n : ℕ) (r : Reason) → IsFirstFaulty (strings_from start images (drop i ends)) n r → IsFirstFaulty (strings images ends) (i + n) r
-  pub asked : (n : ℕ) → MayAskAt (strings_from start images (drop i ends)) n → MayAskAt (strings images ends) (i + n)
+-- the string with this number begins no later than it ends, within the size
+pub between : (size start : ℕ) (ends : List ℕ) (i : ℕ) → i < length ends → AreEndsFrom start size ends → (start_at start ends i ≤ get_or ends i 0) × (get_or ends i 0 ≤ size)
+between size start [] i inside are = absurd (omega (arith, inside))
+between size start (end ∷ ends) zero inside are = (are.0, are.1)
+between size start (end ∷ ends) (suc i) inside are = between size end ends i (omega (arith, inside)) are.2
 
-pub takes_none : (before : WaitingUnion) (images ends : List ℕ) (failed : ℕ) → AreEnds (length images) ends → MergesInRest before before images ends failed failed 0 0
-takes_none before images ends failed are = record { are = are; bound = refl; untold = refl; rest = λ ys read. (ys, read, refl); faulty = λ n r f. subst (λ m. IsFirstFaulty (strings images ends) m r) (let none : n ≡ 0 + n = omega arith in none) f; asked = λ n a. subst (MayAskAt (strings images ends)) (let none : n ≡ 0 + n = omega arith in none) a }
+pub start_after : (start : ℕ) (ends : List ℕ) (i : ℕ) → i < length ends → start_at start ends (suc i) ≡ get_or ends i 0
+start_after start [] i inside = absurd (omega (arith, inside))
+start_after start (end ∷ []) zero inside = refl
+start_after start (end ∷ next ∷ ends) zero inside = refl
+start_after start (end ∷ ends) (suc i) inside = start_after end ends i (omega (arith, inside))
 
-module _ (before now : WaitingUnion) (images ends : List ℕ) (failed_old failed_now start i : ℕ) (left : MergesInRest before now images ends failed_old failed_now start i) where
-  module _ (inside : i < length ends) where
-    pub takes_more : (next : WaitingUnion) (failed_next : ℕ) → MergesInto now next (string_at start images (get_or ends i 0)) → failed_next ≡ failed_now
-        → MergesInRest before next images ends failed_old failed_next (get_or ends i 0) (i + 1)
-    takes_more next failed_next one same = record {
-      are = (ends_here (length images) ends i 0 inside start left.are).2;
-      bound = one.bound ∙ left.bound;
-      untold = same ∙ left.untold;
-      rest = λ ys read.
-          let found = left.rest (one.sketch ∷ ys) (subst (λ s. AreReadAs s (one.sketch ∷ ys)) (sym (strings_here start images ends i 0 inside)) (one.read, read)) in
-          (found.0, found.1, ap (λ g. merge_all before.lg_max_k g ys) (one.gadget ∙ ap (λ k. merge k (whole_gadget now) one.sketch) left.bound) ∙ found.2);
-      faulty = λ n r f.
-          subst (λ m. IsFirstFaulty (strings images ends) m r) (let next : i + suc n ≡ i + 1 + n = omega arith in next)
-          (left.faulty (suc n) r (subst (λ s. IsFirstFaulty s (suc n) r) (sym (strings_here start images ends i 0 inside)) (no_fault _ one.sketch one.read, f)));
-      asked = λ n a.
-          subst (MayAskAt (strings images ends)) (let next : i + suc n ≡ i + 1 + n = omega arith in next)
-          (left.asked (suc n) (subst (λ s. MayAskAt s (suc n)) (sym (strings_here start images ends i 0 inside)) (no_fault _ one.sketch one.read, a)));
-    }
+pub start_first : (start : ℕ) (ends : List ℕ) → start_at start ends 0 ≡ start
+start_first start [] = refl
+start_first start (end ∷ ends) = refl
 
-    pub fails_here : (failed_next : ℕ) (e : Reason) → IsRefusedAt (string_at start images (get_or ends i 0)) i failed_now failed_next e
-        → FailsToMergeIn (strings images ends) failed_old failed_next e
-    fails_here failed_next e (inl m) = inl (m.0, m.2 ∙ left.untold, i + 0, left.asked 0 (subst (λ s. MayAskAt s 0) (sym (strings_here start images ends i 0 inside)) m.1))
-    fails_here failed_next e (inr f) =
-        let here : i + 0 ≡ failed_next = omega (arith, f.1) in
-        inr (subst (λ n. IsFirstFaulty (strings images ends) n e) here (left.faulty 0 e (subst (λ s. IsFirstFaulty s 0 e) (sym (strings_here start images ends i 0 inside)) f.0)))
-
-  pub takes_all : length ends ≤ i → MergesInAll before now (strings images ends)
-  takes_all all =
-      let found = left.rest [] (subst (λ s. AreReadAs s []) (sym (strings_end start images ends i all)) tt) in
-      record { sketches = found.0; read = found.1; gadget = found.2 }
-
--- ---- the union of what was merged
-
--- the sketches that images are read as, and a gadget that is their union
-pub record IsMerged (k : ℕ) (images : List (List ℕ)) (gadget : Sketch) : Type 0 where
-  pub sketches : List Sketch
-  pub read : AreReadAs images sketches
-  pub is : gadget ≡ merge_all k (empty_union k) sketches
-
-module _ (k : ℕ) (u : WaitingUnion) (bound : u.lg_max_k ≡ k) (empty : (whole_gadget u) ≡ empty_union k) where
-  pub merged_two : (v w : WaitingUnion) (left right : List ℕ) → MergesInto u v left → MergesInto v w right → IsMerged k (left ∷ right ∷ []) (whole_gadget w)
-  merged_two v w left right one two = record {
-    sketches = one.sketch ∷ two.sketch ∷ [];
-    read = (one.read, (two.read, tt));
-    is = two.gadget ∙ (λ i. merge ((one.bound ∙ bound) i) ((one.gadget ∙ (λ j. merge (bound j) (empty j) one.sketch)) i) two.sketch);
-  }
-
-  pub merged_all : (w : WaitingUnion) (images : List (List ℕ)) → MergesInAll u w images → IsMerged k images (whole_gadget w)
-  merged_all w images taken = record { sketches = taken.sketches; read = taken.read; is = taken.gadget ∙ (λ i. merge_all (bound i) (empty i) taken.sketches) }
-
-pub is_union : (k bits : ℕ) (images : List (List ℕ)) (failed_old failed_new : ℕ) (gadget y : Sketch) (are : AreUnionArguments k bits) → IsMerged k images gadget
-    → y ≡ record gadget { width = are.width_is.width } → failed_new ≡ failed_old → IsUnionOf k bits images failed_old failed_new y
-is_union k bits images fo fn gadget y are union_of_batch is same = record {
-  arguments = are;
-  sketches = union_of_batch.sketches;
-  read = union_of_batch.read;
-  is = is ∙ ap (λ (g : Sketch). let z : Sketch = record g { width = are.width_is.width } in z) union_of_batch.is;
-  untold = same;
-}
-
--- ---- a batch that is rejected
-
-pub refuses_batch : (InRange : Type 0) (images : List (List ℕ)) (failed_old failed_new : ℕ) (e : Reason) → InRange → FailsToMergeIn images failed_old failed_new e
-    → RefusesImages InRange images failed_old failed_new e
-refuses_batch InRange images fo fn e are (inl m) = refuses_more_memory InRange images fo fn e m.2 m.0 are m.3 m.1
-refuses_batch InRange images fo fn e are (inr f) = images_fault are f
+pub string_between : (start : ℕ) (bytes ends : List ℕ) (i : ℕ) → i < length ends
+    → get_or (strings_from start bytes ends) i [] ≡ take (get_or ends i 0 - start_at start ends i) (drop (start_at start ends i) bytes)
+string_between start bytes [] i inside = absurd (omega (arith, inside))
+string_between start bytes (end ∷ ends) zero inside = refl
+string_between start bytes (end ∷ ends) (suc i) inside = string_between end bytes ends i (omega (arith, inside))

@@ -19,7 +19,7 @@ use Rattle.hll_sketch.proofs.FirstFaults.{faultless_is_image}
 use Rattle.hll_sketch.proofs.SetFields.{coupons_stay}
 use Rattle.hll_c.specs.Answers.{IsImageOf, WithFields, RefusesArguments, argument, memory, RefusesImage, RefusesInfo, RefusesTested, image_fault, image_memory, RefusesWith, argument_with_image, image_refused, RefusesImages, argument_with_images, images_fault, images_memory}
 use Rattle.hll_c.specs.Batches.{AreEnds, AreReadAs, IsFirstFaulty, MayAskAt, strings}
-use Rattle.hll_c.specs.Calls.{bits_of, HasValues, AreNewArguments, IsEmptyAt, IsMadeOf, IsFoldOf, RefusesFold, above, with, AreUnionArguments, IsUnionOf, AreBatchArguments, IsUnionOfBatch}
+use Rattle.hll_c.specs.Calls.{bits_of, HasValues, AreNewArguments, IsEmptyAt, IsMadeOf, IsFoldOf, RefusesFold, above, with, AreUnionArguments, IsUnionOf, AreBatchArguments}
 use Rattle.hll_c.specs.Steps.{IsRefusedAt}
 
 -- ---- reading
@@ -120,14 +120,13 @@ module _ (image : List ℕ) (IsMade : Sketch → Sketch → Type 0) (y : Sketch)
 pub no_memory_to_fold : (image : List ℕ) (k : ℕ) (y : Sketch) → IsMadeOf image (IsFoldOf k) y → RefusesFold k image Memory
 no_memory_to_fold image k y made = with (no_memory_with image (IsFoldOf k) y made (IsLgK k) (λ x z fold. fold.lg_k_is))
 
-pub no_memory_to_merge : (k bits : ℕ) (images : List (List ℕ)) (failed_old failed_new : ℕ) (y : Sketch) → IsUnionOf k bits images failed_old failed_new y
-    → RefusesImages (AreUnionArguments k bits) images failed_old failed_new Memory
-no_memory_to_merge k bits images fo fn y made = images_memory (length images) made.arguments (asked_after images made.sketches made.read) made.untold
-
-pub no_memory_to_merge_batch : (k bits : ℕ) (images ends : List ℕ) (failed_old failed_new : ℕ) (y : Sketch) → IsUnionOfBatch k bits images ends failed_old failed_new y
-    → RefusesImages (AreBatchArguments k bits (length images) ends) (strings images ends) failed_old failed_new Memory
-no_memory_to_merge_batch k bits images ends fo fn y made =
-    images_memory (length (strings images ends)) (record { union = made.is.arguments; are = made.are }) (asked_after (strings images ends) made.is.sketches made.is.read) made.is.untold
+-- a batch of images is rejected as the images are
+pub refuses_in_batch : (k bits : ℕ) (images ends : List ℕ) (failed_old failed_new : ℕ) (e : Reason) → AreEnds (length images) ends
+    → RefusesImages (AreUnionArguments k bits) (strings images ends) failed_old failed_new e
+    → RefusesImages (AreBatchArguments k bits (length images) ends) (strings images ends) failed_old failed_new e
+refuses_in_batch k bits images ends fo fn _ are (argument_with_images not same) = argument_with_images (λ both. not both.union) same
+refuses_in_batch k bits images ends fo fn e are (images_fault in_range f) = images_fault (record { union = in_range; are = are }) f
+refuses_in_batch k bits images ends fo fn _ are (images_memory n in_range asked same) = images_memory n (record { union = in_range; are = are }) asked same
 
 -- ---- images made from bytes to bytes
 

@@ -2,7 +2,9 @@
 mod Agreement
 pub mod Answers
 pub mod Batches
+pub mod Codes
 pub mod Counts
+pub mod GrowingUnions
 pub mod Histograms
 pub mod Images
 pub mod MaxValues

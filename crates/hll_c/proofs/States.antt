@@ -31,7 +31,7 @@ use Rattle.hll_state.proofs.Tables.{content-taken, content-staged}
 use Rattle.hll_c.specs.Answers.{IsImageOf}
 use Rattle.hll_c.specs.Batches.{AreEndsFrom, strings}
 use Rattle.hll_c.specs.Estimates.{IsEstimateOfCoupons, IsEstimateOfContent}
-use Rattle.hll_c.specs.States.{IsBoundFor, Joins, RefusesState, state_argument, state_register, state_memory}
+use Rattle.hll_c.specs.States.{IsBoundFor, least_bound, Joins, RefusesState, state_argument, state_register, state_memory}
 use Rattle.hll_c.specs.declared.estimate.HllEstimate.{HllEstimate}
 use Rattle.hll_c.proofs.Batches.{ends_here, strings_here, strings_end, coupons_from, length-strings}
 
@@ -95,7 +95,7 @@ pub no_memory : Argument ≡ Memory → ⊥
 no_memory same = let other : 12 ≡ 13 = ap number_of same in omega (arith, other)
 
 -- what merging gives for the elements after a header, it gives for the state
-pub joined_within : (lg_max_k o : ℕ) (y : Sketch) (old final body : List (List ℕ)) (h g : Header) (answer : Joined) → HasHeader old h → IsBoundFor lg_max_k h.lg_k → HasHeader final g
+pub joined_within : (lg_max_k o : ℕ) (y : Sketch) (old final body : List (List ℕ)) (h g : Header) (answer : Joined) → HasHeader old h → IsBoundFor lg_max_k (least_bound old h.lg_k) → HasHeader final g
     → drop 10 final ≡ drop 10 (put_mid 10 (length old - 10) old body) → IsJoined (not (nat_eq lg_max_k 0)) o y h (mid_of 10 (length old - 10) old) g body answer
     → Joins lg_max_k o y old final answer
 joined_within lg_max_k o y old final body h g answer had bound has rest is =

@@ -1,6 +1,6 @@
 -- SPDX-License-Identifier: Apache-2.0
 -- What calls leave of a state whose sketch is legal and has, if it has registers, some above 0.
-use Rattle.std.proofs.Common.{◌≡◌, ℕ, ◌+◌, ◌^◌, ◌<◌, ◌≤◌, not, nat_eq, min, List, [], ◌∷◌, drop, map, All, sym, subst, ap, ◌∙◌, arith}
+use Rattle.std.proofs.Common.{◌≡◌, ℕ, Bool, true, false, ◌+◌, ◌^◌, ◌<◌, ◌≤◌, not, nat_eq, min, List, [], ◌∷◌, drop, map, All, sym, subst, ap, ◌∙◌, arith}
 use Rattle.std.specs.Int.{w64, leading_zeros}
 use Rattle.std.proofs.lemmas.List.Elements.{All-nil, All-cons, All-head, All-tail}
 use Rattle.hll_base.specs.Hash.{hash, default_seed}
@@ -10,7 +10,7 @@ use Rattle.hll_coupons.specs.Pair.{IsPair, slot_of, value_of}
 use Rattle.hll_sketch.specs.Image.{IsReadAs}
 use Rattle.hll_sketch.specs.Laws.{add_in_turn}
 use Rattle.hll_base.specs.declared.hll_type.HllType.TheVariants.{Hll8}
-use Rattle.hll_sketch.specs.Value.{Sketch, IsLegal, empty_sketch}
+use Rattle.hll_sketch.specs.Value.{Sketch, IsLgK, IsLegal, empty_sketch}
 use Rattle.hll_state.specs.Counter.{sketch_in}
 use Rattle.hll_state.specs.Memory.{IsStateOf, OfState}
 use Rattle.hll_state.specs.Merged.{bit_of}
@@ -20,7 +20,7 @@ use Rattle.hll_state.proofs.States.{one_header, means}
 use Rattle.hll_state.proofs.Whole.{empty_whole, added_whole, merged_whole}
 use Rattle.hll_c.specs.ByteRegisters.{HaveValues}
 use Rattle.hll_c.specs.Answers.{ok_code}
-use Rattle.hll_c.specs.States.{MakesState, AddsToState, JoinsSketch, JoinsImage, JoinsState, added, no_room, not_added, joined, no_room_to_join, other_lg_k, image_read, image_not_read, state_read, no_states, register_above, made, few_elements, no_lg_k}
+use Rattle.hll_c.specs.States.{IsNewState, MakesState, BeginsJoin, as_it_was, at_bound, AddsToState, JoinsSketch, JoinsImage, JoinsState, added, no_room, not_added, joined, no_room_to_join, other_lg_k, image_read, image_not_read, state_read, no_states, register_above, made, made_open, few_elements, no_lg_k}
 
 -- ---- pairs
 
@@ -64,8 +64,12 @@ leaves_added InRange cs old new size_old size_new code are (no_room range of lac
     record { sketch = of.sketch; was = of.is; is = whole_as old of.sketch of.was whole }
 leaves_added InRange cs old new size_old size_new code are (not_added none same sizes) whole = same_whole old new same whole
 
+-- a new state is one
+new_whole : (lg_k : ℕ) (open_lg_k : Bool) (elements : List (List ℕ)) → IsLgK lg_k → IsNewState lg_k open_lg_k elements → OfState elements IsWhole
+new_whole lg_k open_lg_k elements is fresh = record { sketch = empty_sketch lg_k Hll8; was = fresh.sketch; is = empty_whole lg_k is }
+
 leaves_joined : (lg_max_k others : ℕ) (y : Sketch) (old new : List (List ℕ)) (size_old size_new code : ℕ) → IsLegal y → JoinsSketch lg_max_k others y old new size_old size_new code → LeavesWhole old new
-leaves_joined lg_max_k others y old new size_old size_new code legal (joined joins sizes) whole =
+leaves_joined lg_max_k others y old new size_old size_new code legal (joined joins lg_k_open sizes) whole =
     let h : Header = joins.before.header in
     let x : Sketch = sketch_in h (drop 10 old) in
     let was : IsWhole x = whole_as old x (means old h joins.before.has) whole in
@@ -74,7 +78,7 @@ leaves_joined lg_max_k others y old new size_old size_new code legal (joined joi
       was = means new joins.after joins.has;
       is = subst IsWhole (sym (joins.is.is was.some)) (merged_whole (not (nat_eq lg_max_k 0)) x y was legal);
     }
-leaves_joined lg_max_k others y old new size_old size_new code legal (no_room_to_join len joins sizes) whole =
+leaves_joined lg_max_k others y old new size_old size_new code legal (no_room_to_join len joins lg_k_open sizes) whole =
     let h : Header = joins.before.header in
     let x : Sketch = sketch_in h (drop 10 old) in
     record {
@@ -84,20 +88,27 @@ leaves_joined lg_max_k others y old new size_old size_new code legal (no_room_to
     }
 leaves_joined lg_max_k others y old new size_old size_new code legal (other_lg_k joins same sizes) whole = same_whole old new same whole
 
+-- a join begins with such a state
+leaves_begun : (lg_max_k : ℕ) (old begun : List (List ℕ)) → BeginsJoin lg_max_k old begun → LeavesWhole old begun
+leaves_begun lg_max_k old begun (as_it_was undecided same) whole = same_whole old begun same whole
+leaves_begun lg_max_k old begun (at_bound decided is fresh) whole = new_whole lg_max_k false begun is fresh
+
 pub leaves_image : (lg_max_k : ℕ) (image : List ℕ) (old new : List (List ℕ)) (size_old size_new code : ℕ) → ((y : Sketch) → IsReadAs image y → IsLegal y)
     → JoinsImage lg_max_k image old new size_old size_new code → LeavesWhole old new
-leaves_image lg_max_k image old new size_old size_new n legal (image_read {code} y read joins) whole = leaves_joined lg_max_k (bit_of y.width) y old new size_old size_new code (legal y read) joins whole
+leaves_image lg_max_k image old new size_old size_new n legal (image_read {code} y read all) whole =
+    leaves_joined lg_max_k (bit_of y.width) y all.begun new size_old size_new code (legal y read) all.joins (leaves_begun lg_max_k old all.begun all.begins whole)
 leaves_image lg_max_k image old new size_old size_new code legal (image_not_read refused needed same sizes) whole = same_whole old new same whole
 
 pub leaves_state : (lg_max_k : ℕ) (other old new : List (List ℕ)) (size_old size_new code : ℕ) → OfState other IsWhole → JoinsState lg_max_k other old new size_old size_new code → LeavesWhole old new
-leaves_state lg_max_k other old new size_old size_new n is (state_read {code} h has joins) whole =
+leaves_state lg_max_k other old new size_old size_new n is (state_read {code} h has all) whole =
     let y : Sketch = sketch_in h (drop 10 other) in
     let legal : IsLegal y = (whole_as other y (means other h has) is).legal in
-    leaves_joined lg_max_k h.widths y old new size_old size_new code legal joins whole
+    leaves_joined lg_max_k h.widths y all.begun new size_old size_new code legal all.joins (leaves_begun lg_max_k old all.begun all.begins whole)
 leaves_state lg_max_k other old new size_old size_new code is (no_states none same sizes) whole = same_whole old new same whole
 leaves_state lg_max_k other old new size_old size_new code is (register_above under illegal same sizes) whole = same_whole old new same whole
 
 pub made_whole : (lg_k : ℕ) (old new : List (List ℕ)) (code : ℕ) → MakesState lg_k old new code → code ≡ ok_code → OfState new IsWhole
-made_whole lg_k old new code (made is of widths) done = record { sketch = empty_sketch lg_k Hll8; was = of; is = empty_whole lg_k is }
+made_whole lg_k old new code (made is new_state) done = new_whole lg_k false new is new_state
+made_whole lg_k old new code (made_open none new_state) done = new_whole 4 true new (record { low = omega arith; high = omega arith }) new_state
 made_whole lg_k old new code (few_elements is few same) done = absurd (omega (arith, done))
 made_whole lg_k old new code (no_lg_k none same) done = absurd (omega (arith, done))

@@ -28,6 +28,12 @@ end_from start (end ∷ ends) = end_from end ends
 abbrev pub strings : List ℕ → List ℕ → List (List ℕ)
 strings bytes ends = strings_from 0 bytes ends
 
+-- where the string with this number begins
+abbrev pub start_at : ℕ → List ℕ → ℕ → ℕ
+start_at start [] i = start
+start_at start (end ∷ ends) zero = start
+start_at start (end ∷ ends) (suc i) = start_at end ends i
+
 -- ---- strings without ends of their own
 
 -- this number of bytes is a whole number of strings of one length, which is not 0

@@ -5,6 +5,7 @@ pub mod ByteRegisters
 pub mod Calls
 pub mod Estimates
 pub mod Info
+pub mod StateInfo
 pub mod States
 pub mod Steps
 pub mod Unions

@@ -1,6 +1,6 @@
 -- SPDX-License-Identifier: Apache-2.0
 -- What calls do with states in caller-owned memory (docs/MODEL.md, "States of a counter").
-use Rattle.std.specs.Prelude.{◌≡◌, ◌≢◌, ℕ, ◌*◌, ◌<◌, ◌≤◌, ◌==◌, ◌⊎◌, not, List, length, drop}
+use Rattle.std.specs.Prelude.{◌≡◌, ◌≢◌, ℕ, ◌*◌, ◌<◌, ◌≤◌, ◌==◌, ◌⊎◌, ◌&&◌, Bool, true, false, not, if◌then◌else◌, List, length, drop}
 use Rattle.hll_base.specs.Reason.{number_of}
 use Rattle.hll_base.specs.declared.error.Reason.{Reason}
 use Rattle.hll_base.specs.declared.error.Reason.TheVariants.{Argument, Memory, Register}
@@ -8,10 +8,10 @@ use Rattle.hll_base.specs.declared.hll_type.HllType.TheVariants.{Hll8}
 use Rattle.hll_sketch.specs.BorrowedImage.{BorrowNeedsMemory}
 use Rattle.hll_sketch.specs.Image.{IsReadAs}
 use Rattle.hll_sketch.specs.Laws.{add_in_turn}
-use Rattle.hll_sketch.specs.Value.{Sketch, IsLgK, IsLegal, empty_sketch}
+use Rattle.hll_sketch.specs.Value.{Sketch, IsLgK, IsLegal, is_empty, empty_sketch}
 use Rattle.hll_state.specs.Counter.{sketch_in}
 use Rattle.hll_state.specs.Joined.{IsJoined}
-use Rattle.hll_state.specs.Memory.{HasHeader, IsState, IsStateOf, OfState, HasWidths, HasRoomIn, AreEnough}
+use Rattle.hll_state.specs.Memory.{HasHeader, IsState, IsStateOf, OfState, HasWidths, HasRoomIn, AreEnough, is_open}
 use Rattle.hll_state.specs.Merged.{bit_of}
 use Rattle.hll_state.specs.declared.header.Header.{Header}
 use Rattle.hll_state.specs.declared.join.Joined.{Joined}
@@ -23,14 +23,29 @@ use Rattle.hll_c.specs.declared.estimate.HllEstimate.{HllEstimate}
 
 -- ---- a new state
 
--- the state of an empty sketch with a width of 8 bits, which records no widths; or there are too few elements; or the lg_k is out
+-- a state of an empty sketch with a width of 8 bits, which records no widths
+pub record IsNewState (lg_k : ℕ) (open_lg_k : Bool) (elements : List (List ℕ)) : Type 0 where
+  pub sketch : IsStateOf elements (empty_sketch lg_k Hll8)
+  pub widths : HasWidths elements 0
+  pub lg_k_open : is_open elements ≡ open_lg_k
+
+-- an lg_k, or 0 for an open one
+abbrev pub MayBeLgK : ℕ → Type 0
+MayBeLgK lg_k = IsLgK lg_k ⊎ (lg_k ≡ 0)
+
+-- a new state of an lg_k, or one whose lg_k is open, and 4 until it is decided; or there are too few elements; or the lg_k is out
 -- of range
 pub data MakesState (lg_k : ℕ) (old new : List (List ℕ)) : ℕ → Type 0 where
-  made : IsLgK lg_k → IsStateOf new (empty_sketch lg_k Hll8) → HasWidths new 0 → MakesState lg_k old new ok_code
-  few_elements : IsLgK lg_k → length old < 10 → new ≡ old → MakesState lg_k old new buffer_code
-  no_lg_k : (IsLgK lg_k → ⊥) → new ≡ old → MakesState lg_k old new (number_of Argument)
+  made : IsLgK lg_k → IsNewState lg_k false new → MakesState lg_k old new ok_code
+  made_open : lg_k ≡ 0 → IsNewState 4 true new → MakesState lg_k old new ok_code
+  few_elements : MayBeLgK lg_k → length old < 10 → new ≡ old → MakesState lg_k old new buffer_code
+  no_lg_k : (MayBeLgK lg_k → ⊥) → new ≡ old → MakesState lg_k old new (number_of Argument)
 
 -- ---- adding
+
+-- a value can be added: the lg_k is not open
+abbrev pub TakesValues : List (List ℕ) → Type 0
+TakesValues elements = is_open elements ≡ false
 
 -- this number of bytes is enough to add n coupons to a state, and no more than any state of its lg_k needs
 pub record AreEnoughBytes (elements : List (List ℕ)) (n bytes : ℕ) : Type 0 where
@@ -78,15 +93,28 @@ SaysEstimateOfState old e = OfState old (λ x. IsEstimateOfContent x.lg_k x.cont
 abbrev pub other_lg_k_code : ℕ
 other_lg_k_code = 16
 
--- 0 for no bound, or an lg_k of at least the state's
+-- 0 for no bound, or an lg_k of at least k
 abbrev pub IsBoundFor : ℕ → ℕ → Type 0
 IsBoundFor lg_max_k k = (lg_max_k ≡ 0) ⊎ ((k ≤ lg_max_k) × (lg_max_k ≤ 21))
+
+-- the least bound for a state: its lg_k, or 4 if that is open
+abbrev pub least_bound : List (List ℕ) → ℕ → ℕ
+least_bound elements k = if is_open elements then 4 else k
 
 -- the elements are a state, and this is a bound for it
 pub record IsStateUnder (lg_max_k : ℕ) (elements : List (List ℕ)) : Type 0 where
   pub header : Header
   pub has : HasHeader elements header
-  pub bound : IsBoundFor lg_max_k header.lg_k
+  pub bound : IsBoundFor lg_max_k (least_bound elements header.lg_k)
+
+-- an lg_k is open, and a bound was given, which decides it
+abbrev pub is_decided : ℕ → List (List ℕ) → Bool
+is_decided lg_max_k elements = is_open elements && not (lg_max_k == 0)
+
+-- the state into which a sketch is merged: as it was; or, if the bound decides its lg_k, a new state of that lg_k
+pub data BeginsJoin (lg_max_k : ℕ) (old begun : List (List ℕ)) : Type 0 where
+  as_it_was : is_decided lg_max_k old ≡ false → begun ≡ old → BeginsJoin lg_max_k old begun
+  at_bound : is_decided lg_max_k old ≡ true → IsLgK lg_max_k → IsNewState lg_max_k false begun → BeginsJoin lg_max_k old begun
 
 -- a state before and after a sketch is merged into it
 pub record Joins (lg_max_k others : ℕ) (y : Sketch) (old new : List (List ℕ)) (answer : Joined) : Type 0 where
@@ -95,24 +123,32 @@ pub record Joins (lg_max_k others : ℕ) (y : Sketch) (old new : List (List ℕ)
   pub has : HasHeader new after
   pub is : IsJoined (not (lg_max_k == 0)) others y before.header (drop 10 old) after (drop 10 new) answer
 
--- A sketch is merged in, and its widths are recorded; or there is not enough room, the size becomes a number of bytes that is
--- enough, and the sketch of the state is unchanged; or the lg_k differ, no bound was given, and nothing changes.
+-- A sketch is merged in, and its widths are recorded; an open lg_k stays open if the sketch is empty. Or there is not enough
+-- room, the size becomes a number of bytes that is enough, and the sketch of the state is unchanged; or the lg_k differ, no bound
+-- was given, and nothing changes.
 pub data JoinsSketch (lg_max_k others : ℕ) (y : Sketch) (old new : List (List ℕ)) (size_old size_new : ℕ) : ℕ → Type 0 where
-  joined : Joins lg_max_k others y old new Done → size_new ≡ size_old → JoinsSketch lg_max_k others y old new size_old size_new ok_code
-  no_room_to_join : (len : ℕ) → Joins lg_max_k others y old new (NoRoom len) → size_new ≡ 4 * len → JoinsSketch lg_max_k others y old new size_old size_new buffer_code
+  joined : Joins lg_max_k others y old new Done → is_open new ≡ (is_open old && is_empty y) → size_new ≡ size_old → JoinsSketch lg_max_k others y old new size_old size_new ok_code
+  no_room_to_join : (len : ℕ) → Joins lg_max_k others y old new (NoRoom len) → is_open new ≡ is_open old → size_new ≡ 4 * len
+      → JoinsSketch lg_max_k others y old new size_old size_new buffer_code
   other_lg_k : Joins lg_max_k others y old new OtherLgK → new ≡ old → size_new ≡ size_old → JoinsSketch lg_max_k others y old new size_old size_new other_lg_k_code
+
+-- a sketch is merged into the state that a join begins with
+pub record BeginsAndJoins (lg_max_k others : ℕ) (y : Sketch) (old new : List (List ℕ)) (size_old size_new code : ℕ) : Type 0 where
+  pub begun : List (List ℕ)
+  pub begins : BeginsJoin lg_max_k old begun
+  pub joins : JoinsSketch lg_max_k others y begun new size_old size_new code
 
 -- The sketch of an image is merged in; or an argument is out of range, the elements are not a state or the image is rejected,
 -- and nothing changes.
 pub data JoinsImage (lg_max_k : ℕ) (image : List ℕ) (old new : List (List ℕ)) (size_old size_new : ℕ) : ℕ → Type 0 where
-  image_read : {code : ℕ} → (y : Sketch) → IsReadAs image y → JoinsSketch lg_max_k (bit_of y.width) y old new size_old size_new code → JoinsImage lg_max_k image old new size_old size_new code
+  image_read : {code : ℕ} → (y : Sketch) → IsReadAs image y → BeginsAndJoins lg_max_k (bit_of y.width) y old new size_old size_new code → JoinsImage lg_max_k image old new size_old size_new code
   image_not_read : {r : Reason} → RefusesWith (IsStateUnder lg_max_k old) image r → (r ≡ Memory → BorrowNeedsMemory image) → new ≡ old → size_new ≡ size_old
       → JoinsImage lg_max_k image old new size_old size_new (number_of r)
 
 -- The sketch of another state is merged in; or an argument is out of range, one of the two is not a state, or the other one
 -- means a sketch that is not legal, and nothing changes.
 pub data JoinsState (lg_max_k : ℕ) (other old new : List (List ℕ)) (size_old size_new : ℕ) : ℕ → Type 0 where
-  state_read : {code : ℕ} → (h : Header) → HasHeader other h → JoinsSketch lg_max_k h.widths (sketch_in h (drop 10 other)) old new size_old size_new code
+  state_read : {code : ℕ} → (h : Header) → HasHeader other h → BeginsAndJoins lg_max_k h.widths (sketch_in h (drop 10 other)) old new size_old size_new code
       → JoinsState lg_max_k other old new size_old size_new code
   no_states : (IsStateUnder lg_max_k old × IsState other → ⊥) → new ≡ old → size_new ≡ size_old → JoinsState lg_max_k other old new size_old size_new (number_of Argument)
   register_above : IsStateUnder lg_max_k old → OfState other (λ y. IsLegal y → ⊥) → new ≡ old → size_new ≡ size_old → JoinsState lg_max_k other old new size_old size_new (number_of Register)

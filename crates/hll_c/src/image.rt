@@ -7,16 +7,15 @@ ghost use Rattle.hll_coupons.specs.Fold.{fold_to, pairs};
 ghost use Rattle.hll_sketch.specs.BorrowedRegisters.{lg_k_of, values_of, AreWhole};
 ghost use Rattle.hll_sketch.specs.ByteRegisters.{AreRegistersOf};
 ghost use Rattle.hll_sketch.specs.CouponImages.{IsImageWith};
-ghost use Rattle.hll_sketch.specs.EstimatorFields.{SetsFields, FillsFields};
+ghost use Rattle.hll_sketch.specs.EstimatorFields.{SetsFields};
 ghost use Rattle.hll_sketch.specs.Image.{IsReadAs, IsSizeOfImage, width_bits, width_of_bits};
 ghost use Rattle.hll_sketch.specs.Laws.{add_in_turn};
 ghost use Rattle.hll_sketch.specs.Layout.{sketch_of};
 ghost use Rattle.hll_sketch.specs.Value.{Sketch, IsLgK};
 ghost use Rattle.hll_c.specs.Answers.{IsImageOf, WithFields, RefusesArguments, RefusesImage, RefusesTested, RefusesWith, RefusesImages};
 ghost use Rattle.hll_c.specs.Batches.{AreEnds, strings};
-ghost use Rattle.hll_c.specs.Calls.{bit, AreNewArguments, IsEmptyAt, IsMadeOf, IsFoldOf, RefusesFold, HasWidth, IsAtWidth, AsksWidth, IsCleared, AreOfCoupon, HasCoupon, HasValues, AreUnionArguments, IsUnionOf, AreBatchArguments, IsUnionOfBatch, SaysAgreement};
-ghost use Rattle.hll_sketch.specs.Waiting.{whole_gadget, MergesInto};
-ghost use Rattle.hll_c.specs.Steps.{MergesInAll, IsRefusedAt, FailsToMergeIn};
+ghost use Rattle.hll_c.specs.Calls.{bit, AreNewArguments, IsEmptyAt, IsMadeOf, IsFoldOf, RefusesFold, HasWidth, IsAtWidth, AsksWidth, IsCleared, AreOfCoupon, HasCoupon, HasValues, SaysAgreement};
+ghost use Rattle.hll_c.specs.Steps.{IsRefusedAt};
 
 use crate::answer::image_with_fields;
 use crate::arguments::{asked_width, lg_k_of_number, width_of};
@@ -29,9 +28,7 @@ use hll_coupons::serialization::{TGT_HLL4, TGT_HLL6, extract_tgt_hll_type};
 use hll_sketch::borrowed_registers::BorrowedRegisters;
 use hll_sketch::coupon_images::{coupon_image_with, says_registers};
 use hll_sketch::image_size::size_of_image;
-use hll_sketch::{
-    HllSketch, HllUnion, UnionBuilder, coupon_image_at, register_image_at, union_of_coupon_images,
-};
+use hll_sketch::{HllSketch, coupon_image_at, register_image_at};
 use std::alloc::Global;
 
 /// The number of byte strings whose coupons are computed before they are added to a sketch.
@@ -68,7 +65,7 @@ fn check_at(alloc: Global, image: &[u8], number: usize, failed: &mut usize) -> R
 }
 
 /// Returns the error. Unless it is `Memory`, it is an error of the image with this number, and `failed` becomes that number.
-fn refused_at(e: Error, number: usize, failed: &mut usize) -> Error
+pub(crate) fn refused_at(e: Error, number: usize, failed: &mut usize) -> Error
     ensures same { result ≡ e }
     ensures reported { ((e ≡ reasons.Memory) × (failed.new ≡ failed.old)) ⊎ ((e ≢ reasons.Memory) × (failed.new ≡ number)) }
 {
@@ -195,148 +192,6 @@ fn add_values(sketch: &mut HllSketch, values: &[u8], ends: &[usize]) -> Result<(
         left = later;
     }
     Ok(())
-}
-
-/// Returns the image of the union of two images.
-pub(crate) fn merged(
-    alloc: Global,
-    lg_max_k: u32,
-    width: u32,
-    left: &[u8],
-    right: &[u8],
-    failed: &mut usize,
-) -> Result<Vec<u8>, Error>
-    ensures ok { IfOk result (λ image. IsImageOf (WithFields (IsUnionOf lg_max_k width (left.now ∷ right.now ∷ []) failed.old failed.new)) image.items) }
-    ensures err { IfErr result (λ e. RefusesImages (AreUnionArguments lg_max_k width) (left.now ∷ right.now ∷ []) failed.old failed.new e) }
-{
-    let bound = lg_k_of_number(lg_max_k)?;
-    match union_of_coupon_images(alloc, bound, width_of(width)?, left, right)? {
-        Some(image) => Ok(image),
-        None => image_with_fields(union_of_two(alloc, lg_max_k, width, left, right, failed)?),
-    }
-}
-
-/// Returns the union of two images, with its estimator fields set if its estimate state is cleared.
-fn union_of_two(
-    alloc: Global,
-    lg_max_k: u32,
-    width: u32,
-    left: &[u8],
-    right: &[u8],
-    failed: &mut usize,
-) -> Result<HllSketch, Error>
-    ensures ok { IfOk result (λ s. WithFields (IsUnionOf lg_max_k width (left.now ∷ right.now ∷ []) failed.old failed.new) (sketch_of s)) }
-    ensures err { IfErr result (λ e. RefusesImages (AreUnionArguments lg_max_k width) (left.now ∷ right.now ∷ []) failed.old failed.new e) }
-{
-    let bound = lg_k_of_number(lg_max_k)?;
-    let width = width_of(width)?;
-    let mut union = UnionBuilder::new(HllUnion::new(alloc, bound)?, alloc);
-    merge_in(&mut union, left, 0, failed)?;
-    merge_in(&mut union, right, 1, failed)?;
-    read_out(union, width)
-}
-
-/// Returns the sketch of a union at a width, with its estimator fields set if its estimate state is cleared. The fields are set
-/// before the width changes, as the sums are computed fastest from 8-bit registers.
-fn read_out(union: UnionBuilder, width: HllType) -> Result<HllSketch, Error>
-    ensures ok { IfOk result (λ s. FillsFields (record (whole_gadget union) { width = width }) (sketch_of s)) }
-    ensures err { IfErr result (λ e. e ≡ reasons.Memory) }
-{
-    let mut sketch = union.build()?.into_sketch(HllType::Hll8)?;
-    sketch.fill_estimator_fields();
-    sketch.into_width(width)
-}
-
-/// Returns the union of the images that are delimited by `ends`, with its estimator fields set if its estimate state is
-/// cleared.
-pub(crate) fn union_of_batch(
-    alloc: Global,
-    lg_max_k: u32,
-    width: u32,
-    images: &[u8],
-    ends: &[usize],
-    failed: &mut usize,
-) -> Result<HllSketch, Error>
-    ensures ok { IfOk result (λ s. WithFields (IsUnionOfBatch lg_max_k width images.now ends.now failed.old failed.new) (sketch_of s)) }
-    ensures err { IfErr result (λ e. RefusesImages (AreBatchArguments lg_max_k width (length images.now) ends.now) (strings images.now ends.now) failed.old failed.new e) }
-{
-    let bound = lg_k_of_number(lg_max_k)?;
-    let width = width_of(width)?;
-    let union = HllUnion::new(alloc, bound)?;
-    if !are_ends(ends, images.len()) {
-        return Err(Error::new(Reason::Argument));
-    }
-    let mut union = UnionBuilder::new(union, alloc);
-    merge_in_all(&mut union, images, ends, failed)?;
-    read_out(union, width)
-}
-
-/// Merges images into a union in turn.
-fn merge_in_all(
-    union: &mut UnionBuilder,
-    images: &[u8],
-    ends: &[usize],
-    failed: &mut usize,
-) -> Result<(), Error>
-    requires { AreEnds (length images.now) ends.now }
-    ensures ok { OnOk result (MergesInAll union.old union.new (strings images.now ends.now) × (failed.new ≡ failed.old)) }
-    ensures err { IfErr result (λ e. FailsToMergeIn (strings images.now ends.now) failed.old failed.new e) }
-{
-    let mut start = 0;
-    for (number, end) in ends.iter().enumerate() {
-        merge_in(union, &images[start..*end], number, failed)?;
-        start = *end;
-    }
-    Ok(())
-}
-
-/// Returns the union of images that need not be contiguous, with its estimator fields set if its estimate state is cleared.
-pub(crate) fn union_of_parts(
-    alloc: Global,
-    lg_max_k: u32,
-    width: u32,
-    parts: &[&[u8]],
-    failed: &mut usize,
-) -> Result<HllSketch, Error>
-    ensures ok { IfOk result (λ s. WithFields (IsUnionOf lg_max_k width (map (λ part. part.now) parts.now) failed.old failed.new) (sketch_of s)) }
-    ensures err { IfErr result (λ e. RefusesImages (AreUnionArguments lg_max_k width) (map (λ part. part.now) parts.now) failed.old failed.new e) }
-{
-    let bound = lg_k_of_number(lg_max_k)?;
-    let width = width_of(width)?;
-    let mut union = UnionBuilder::new(HllUnion::new(alloc, bound)?, alloc);
-    merge_in_parts(&mut union, parts, failed)?;
-    read_out(union, width)
-}
-
-/// Merges images that need not be contiguous into a union, in turn.
-fn merge_in_parts(
-    union: &mut UnionBuilder,
-    parts: &[&[u8]],
-    failed: &mut usize,
-) -> Result<(), Error>
-    ensures ok { OnOk result (MergesInAll union.old union.new (map (λ part. part.now) parts.now) × (failed.new ≡ failed.old)) }
-    ensures err { IfErr result (λ e. FailsToMergeIn (map (λ part. part.now) parts.now) failed.old failed.new e) }
-{
-    for (number, part) in parts.iter().enumerate() {
-        merge_in(union, part, number, failed)?;
-    }
-    Ok(())
-}
-
-/// Merges the image with this number into a union.
-fn merge_in(
-    union: &mut UnionBuilder,
-    image: &[u8],
-    number: usize,
-    failed: &mut usize,
-) -> Result<(), Error>
-    ensures ok { OnOk result (MergesInto union.old union.new image.now × (failed.new ≡ failed.old)) }
-    ensures err { IfErr result (λ e. IsRefusedAt image.now number failed.old failed.new e) }
-{
-    match union.update_with_image(image) {
-        Ok(()) => Ok(()),
-        Err(e) => Err(refused_at(e, number, failed)),
-    }
 }
 
 /// Returns the sketch of the image, folded to an `lg_k`.

@@ -25,9 +25,9 @@ const INFO_SIZE: usize = 64;
 /// The stage of a list.
 const LIST: u8 = 0;
 /// The stage of a set.
-const SET: u8 = 1;
+pub(crate) const SET: u8 = 1;
 /// The stage of registers.
-const REGISTERS: u8 = 2;
+pub(crate) const REGISTERS: u8 = 2;
 
 /// What an image says. Fields that its stage doesn't have are 0.
 #[repr(C)]

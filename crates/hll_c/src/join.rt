@@ -1,19 +1,23 @@
 // SPDX-License-Identifier: Apache-2.0
 //! Merges images and states into states of counters.
-ghost use Rattle.std.specs.Prelude.{◌≡◌, ◌*◌, ◌≤◌, ◌<◌, ◌^◌, ◌↔◌, ◌==◌, not, IsTrue, IfSome, IfNone, length, drop};
+ghost use Rattle.std.specs.Prelude.{◌≡◌, ◌*◌, ◌≤◌, ◌<◌, ◌^◌, ◌↔◌, ◌==◌, ◌&&◌, not, IsTrue, IfSome, IfNone, length, drop};
 ghost use Rattle.hll_sketch.specs.BorrowedImage.{sketch_of_borrowed};
+ghost use Rattle.hll_sketch.specs.Value.{is_empty};
+ghost use Rattle.hll_state.specs.CouponRun.{raws};
+ghost use Rattle.hll_state.specs.Header.{header_of};
 ghost use Rattle.hll_state.specs.Memory.{HasHeader, IsOnlyRead};
-ghost use Rattle.hll_c.specs.States.{IsBoundFor, IsStateUnder, JoinsSketch, JoinsImage, JoinsState};
+ghost use Rattle.hll_state.specs.Memory.{is_open as is_lg_k_open};
+ghost use Rattle.hll_c.specs.States.{IsBoundFor, least_bound, IsStateUnder, BeginsJoin, BeginsAndJoins, JoinsSketch, JoinsImage, JoinsState};
 
 use crate::answer::{BUFFER, OK};
-use crate::state::too_small;
-use hll_base::bounds::MAX_LG_K;
+use crate::state::{make, too_small};
+use hll_base::bounds::{MAX_LG_K, MIN_LG_K};
 use hll_base::error::Reason;
 use hll_sketch::borrowed_image::BorrowedImage;
 use hll_sketch::coupon_room::CouponRoom;
 use hll_state::header::{HEADER_LEN, Header};
 use hll_state::join::{Joined, bit_of};
-use hll_state::memory::{close, open, resolve};
+use hll_state::memory::{close, close_if_changed, is_open, open, resolve, set_open};
 use std::alloc::Global;
 
 /// The code of a call if the sketch has another `lg_k` than the state, and no bound was given.
@@ -64,8 +68,43 @@ pub(crate) fn join_state(
     }
 }
 
-/// Merges a sketch into a state whose header was read, and writes its header.
+/// Merges a sketch into a state whose header was read, and writes its header. If the `lg_k` of the state is open, the bound
+/// decides it first, or else a sketch that isn't empty.
 fn join(
+    header: Header,
+    lg_max_k: u32,
+    state: &mut [[u8; 4]],
+    size: &mut usize,
+    widths: u8,
+    image: &BorrowedImage<'_, Global>,
+) -> u8
+    requires has { HasHeader state.old header }
+    requires bound { IsBoundFor lg_max_k (least_bound state.old header.lg_k) }
+    requires widths { widths < 8 }
+    ensures { BeginsAndJoins lg_max_k widths (sketch_of_borrowed image.now) state.old state.new size.old size.new result }
+{
+    let begun = begin_join(header, lg_max_k, state);
+    join_begun(begun, lg_max_k, state, size, widths, image)
+}
+
+/// Makes the state that a join begins with, and returns its header: if the bound decides the `lg_k` of a state, a new state.
+#[inline(always)]
+fn begin_join(header: Header, lg_max_k: u32, state: &mut [[u8; 4]]) -> Header
+    requires has { HasHeader state.old header }
+    requires bound { IsBoundFor lg_max_k (least_bound state.old header.lg_k) }
+    ensures begun { BeginsJoin lg_max_k state.old state.new }
+    ensures has { HasHeader state.new result }
+    ensures bound { IsBoundFor lg_max_k (least_bound state.new result.lg_k) }
+{
+    if lg_max_k == 0 || !is_open(state) {
+        return header;
+    }
+    make(lg_max_k as u8, false, state)
+}
+
+/// Merges a sketch into a state whose header was read, and writes its header. The bound has decided an open `lg_k`.
+#[inline(always)]
+fn join_begun(
     mut header: Header,
     lg_max_k: u32,
     state: &mut [[u8; 4]],
@@ -74,13 +113,15 @@ fn join(
     image: &BorrowedImage<'_, Global>,
 ) -> u8
     requires has { HasHeader state.old header }
-    requires bound { IsBoundFor lg_max_k header.lg_k }
+    requires bound { IsBoundFor lg_max_k (least_bound state.old header.lg_k) }
     requires widths { widths < 8 }
     ensures { JoinsSketch lg_max_k widths (sketch_of_borrowed image.now) state.old state.new size.old size.new result }
 {
+    let before = header;
     match header.join(&mut state[HEADER_LEN..], lg_max_k != 0, widths, image) {
         Joined::Done => {
-            close(state, header);
+            close_if_changed(state, before, header);
+            decide(state, image);
             OK
         }
         Joined::NoRoom(len) => {
@@ -91,21 +132,40 @@ fn join(
     }
 }
 
+/// A sketch that isn't empty decides an open `lg_k`.
+#[inline(always)]
+fn decide(state: &mut [[u8; 4]], image: &BorrowedImage<'_, Global>)
+    requires there { 10 ≤ length state.old }
+    ensures lg_k_open { is_lg_k_open state.new ≡ (is_lg_k_open state.old && is_empty (sketch_of_borrowed image.now)) }
+    ensures header { header_of (raws state.new) ≡ header_of (raws state.old) }
+    ensures rest { drop 10 state.new ≡ drop 10 state.old }
+{
+    if is_open(state) && !image.is_empty() {
+        set_open(state, false);
+    }
+}
+
 /// Reads the header of a state. Returns `None` if the elements are not a state, or if `lg_max_k` is neither 0 nor a bound for
 /// it.
+#[inline(always)]
 fn open_under(state: &[[u8; 4]], lg_max_k: u32) -> Option<Header>
-    ensures some { IfSome result (λ h. HasHeader state.now h × IsBoundFor lg_max_k h.lg_k) }
+    ensures some { IfSome result (λ h. HasHeader state.now h × IsBoundFor lg_max_k (least_bound state.now h.lg_k)) }
     ensures none { IfNone result (IsStateUnder lg_max_k state.now → ⊥) }
 {
     let header = open(state)?;
-    if is_bound(lg_max_k, header.lg_k) {
+    let least = if is_open(state) {
+        MIN_LG_K
+    } else {
+        header.lg_k
+    };
+    if is_bound(lg_max_k, least) {
         Some(header)
     } else {
         None
     }
 }
 
-/// Returns whether `lg_max_k` is 0, or an `lg_k` of at least the state's.
+/// Returns whether `lg_max_k` is 0, or an `lg_k` of at least this one.
 fn is_bound(lg_max_k: u32, lg_k: u8) -> bool
     ensures { IsTrue result ↔ IsBoundFor lg_max_k lg_k }
 {

@@ -14,24 +14,26 @@
 //! and for its result, and frees all of it before it returns. If an allocation fails, the reason is `Memory`.
 #![tactic(auto)]
 
-ghost use Rattle.std.specs.Prelude.{◌≡◌, ◌∷◌, [], ℕ, length, map};
+ghost use Rattle.std.specs.Prelude.{◌≡◌, ◌∷◌, [], ℕ, false, length, map};
 ghost use Rattle.hll_coupons.specs.Hashed.{coupon_of_bytes};
 ghost use Rattle.hll_sketch.specs.EstimatorFields.{SetsFields};
 ghost use Rattle.hll_sketch.specs.Image.{IsReadAs, IsSizeOfImage};
-ghost use Rattle.hll_sketch.specs.Value.{Sketch};
+ghost use Rattle.hll_sketch.specs.Value.{Sketch, IsLgK};
 ghost use Rattle.hll_c.specs.Answers.{Answers, IsImageOf, PutsBytes, Reports, Tests, RefusesArguments, RefusesImage, RefusesInfo, RefusesTested, RefusesWith, RefusesImages};
 ghost use Rattle.hll_c.specs.Batches.{AreEnds, strings, AreOfLength, strings_of_length, AreOffsets, strings_between};
 ghost use Rattle.hll_c.specs.ByteRegisters.{HaveValues, MergesImageInto, MergesRegistersInto, AddsValues, AddsStrings, AddsCoupons, FoldsInPlace, RefusesRegisters, SaysCounts, IsOfBytes, RefusesBytes};
 ghost use Rattle.hll_c.specs.Calls.{AreNewArguments, IsEmptyAt, IsMadeOf, IsFoldOf, RefusesFold, AsksWidth, IsWidth, IsAtWidth, IsCleared, AreOfCoupon, HasCoupon, HasValues, AreUnionArguments, IsUnionOf, AreBatchArguments, IsUnionOfBatch, SaysAgreement, PutsCoupons, PutsCouponsOf};
 ghost use Rattle.hll_c.specs.Estimates.{SaysEstimate, SaysEstimateOfBytes, SaysEstimateOfCounts, RefusesCounts};
 ghost use Rattle.hll_c.specs.Info.{SaysInfo, SaysHistogram};
-ghost use Rattle.hll_c.specs.States.{MakesState, AddsToState, IsOfState, SaysEstimateOfState, RefusesEstimateOfState, RefusesState, JoinsImage, JoinsState};
-ghost use Rattle.hll_state.specs.Memory.{OfState, IsOnlyRead, KeepsWidths};
+ghost use Rattle.hll_c.specs.StateInfo.{SaysStateInfo, RefusesStateInfo};
+ghost use Rattle.hll_c.specs.States.{MakesState, TakesValues, AddsToState, IsOfState, SaysEstimateOfState, RefusesEstimateOfState, RefusesState, JoinsImage, JoinsState};
+ghost use Rattle.hll_state.specs.Memory.{OfState, IsOnlyRead, IsSettled, KeepsWidths, is_open};
 ghost use Rattle.hll_state.specs.Whole.{IsWhole, LeavesWhole};
 ghost use Rattle.hll_c.specs.Unions.{IsStateOfUnion, ExtendsUnionByImage, ExtendsUnionByState};
 ghost use Rattle.hll_c.specs.declared.estimate.HllEstimate.{HllEstimate};
 ghost use Rattle.hll_c.specs.declared.info.HllInfo.{HllInfo};
 ghost use Rattle.hll_c.specs.declared.info.HllHistogram.{HllHistogram};
+ghost use Rattle.hll_c.specs.declared.state_info.HllStateInfo.{HllStateInfo};
 
 mod answer;
 mod arguments;
@@ -43,12 +45,16 @@ mod image;
 mod info;
 mod join;
 mod offsets;
+mod several_images;
 mod state;
+mod state_info;
+mod union;
 
 use crate::answer::{code_of, put_bytes, put_image, report};
 use crate::batch::put_coupons;
 use crate::estimate::HllEstimate;
 use crate::info::{HllHistogram, HllInfo};
+use crate::state_info::HllStateInfo;
 use hll_coupons::coupon::Coupon;
 use std::alloc::Global;
 
@@ -172,7 +178,7 @@ pub extern "C" fn hll_image_add_coupon(
 ///
 /// Returns `Argument` if `lg_max_k` or `width` is out of range (a width of 0 is out of range here and in the unions below), the
 /// reason of the first check that the first faulty image fails, with the number of that image in `failed`, or `Memory`.
-/// Allocates one of their sketches at a time, the union and the written image.
+/// Allocates what reading one of them at a time takes, the union and the written image.
 #[unsafe(no_mangle)]
 pub extern "C" fn hll_image_merge(
     alloc: Global,
@@ -187,7 +193,7 @@ pub extern "C" fn hll_image_merge(
     ensures { Answers (IsUnionOf lg_max_k width (left.now ∷ right.now ∷ []) failed.old failed.new) (RefusesImages (AreUnionArguments lg_max_k width) (left.now ∷ right.now ∷ []) failed.old failed.new) out.old out.new size.old size.new result }
 {
     put_bytes(
-        image::merged(alloc, lg_max_k, width, left, right, failed),
+        union::union_of_two(alloc, lg_max_k, width, left, right, failed),
         out,
         size,
     )
@@ -197,7 +203,7 @@ pub extern "C" fn hll_image_merge(
 /// delimited by `ends`. `lg_max_k` is the bound of the union's `lg_k`. The union of no images is the empty sketch.
 ///
 /// Returns what `hll_image_merge` does, and `Argument` also if ends descend or an end is after the last byte of `images`.
-/// Allocates one sketch at a time, the union and the written image.
+/// Allocates what reading one image at a time takes, the union and the written image.
 #[unsafe(no_mangle)]
 pub extern "C" fn hll_images_union(
     alloc: Global,
@@ -211,8 +217,8 @@ pub extern "C" fn hll_images_union(
 ) -> u8
     ensures { Answers (IsUnionOfBatch lg_max_k width images.now ends.now failed.old failed.new) (RefusesImages (AreBatchArguments lg_max_k width (length images.now) ends.now) (strings images.now ends.now) failed.old failed.new) out.old out.new size.old size.new result }
 {
-    put_image(
-        image::union_of_batch(alloc, lg_max_k, width, images, ends, failed),
+    put_bytes(
+        union::union_of_batch(alloc, lg_max_k, width, images, ends, failed),
         out,
         size,
     )
@@ -221,7 +227,7 @@ pub extern "C" fn hll_images_union(
 /// Writes the image of the union of any number of images into `out`, at a width. The images need not be contiguous. `lg_max_k`
 /// is the bound of the union's `lg_k`. The union of no images is the empty sketch.
 ///
-/// Returns what `hll_image_merge` does. Allocates one sketch at a time, the union and the written image.
+/// Returns what `hll_image_merge` does, and allocates what `hll_images_union` does.
 #[unsafe(no_mangle)]
 pub extern "C" fn hll_images_unionv(
     alloc: Global,
@@ -234,8 +240,8 @@ pub extern "C" fn hll_images_unionv(
 ) -> u8
     ensures { Answers (IsUnionOf lg_max_k width (map (λ part. part.now) parts.now) failed.old failed.new) (RefusesImages (AreUnionArguments lg_max_k width) (map (λ part. part.now) parts.now) failed.old failed.new) out.old out.new size.old size.new result }
 {
-    put_image(
-        image::union_of_parts(alloc, lg_max_k, width, parts, failed),
+    put_bytes(
+        union::union_of_parts(alloc, lg_max_k, width, parts, failed),
         out,
         size,
     )
@@ -519,12 +525,15 @@ pub extern "C" fn hll_coupons_ends32(values: &[u8], offsets: &[u32], coupons: &m
 
 /// Makes the state of an empty sketch. A state is a slice of elements of four bytes each.
 ///
+/// If `lg_k` is 0, the `lg_k` of the state is open: the first sketch that is merged and isn't empty decides it, or the first
+/// bound. Until then no value can be added, and it is 4, or the greatest of the empty sketches that were merged.
+///
 /// Returns `Argument` if `lg_k` is out of range, or 14 if there are fewer than ten elements. Allocates nothing.
 #[unsafe(no_mangle)]
 pub extern "C" fn hll_state_new(lg_k: u32, state: &mut [[u8; 4]]) -> u8
     ensures made { MakesState lg_k state.old state.new result }
     ensures left { result ≡ 0 → OfState state.new IsWhole }
-    ensures union { result ≡ 0 → IsStateOfUnion lg_k [] state.new }
+    ensures union { result ≡ 0 → IsLgK lg_k → IsStateOfUnion lg_k [] state.new }
 {
     state::new(lg_k, state)
 }
@@ -532,7 +541,7 @@ pub extern "C" fn hll_state_new(lg_k: u32, state: &mut [[u8; 4]]) -> u8
 /// Adds values to a state: byte strings that are concatenated in `values` and delimited by `ends`.
 ///
 /// Returns 14 if there is not enough room for them, and sets `size` to a number of bytes that is enough. Returns `Argument` if
-/// ends descend, an end is after the last byte of `values`, or the elements are not a state. On these codes the sketch of the
+/// ends descend, an end is after the last byte of `values`, the elements are not a state, or its `lg_k` is open. On these codes the sketch of the
 /// state is unchanged. Allocates nothing.
 #[unsafe(no_mangle)]
 pub extern "C" fn hll_state_add(
@@ -541,8 +550,9 @@ pub extern "C" fn hll_state_add(
     values: &[u8],
     ends: &[usize],
 ) -> u8
-    ensures added { AddsToState (AreEnds (length values.now) ends.now) (map coupon_of_bytes (strings values.now ends.now)) state.old state.new size.old size.new result }
+    ensures added { AddsToState (AreEnds (length values.now) ends.now × TakesValues state.old) (map coupon_of_bytes (strings values.now ends.now)) state.old state.new size.old size.new result }
     ensures widths { KeepsWidths state.old state.new }
+    ensures lg_k_open { is_open state.new ≡ is_open state.old }
     ensures left { LeavesWhole state.old state.new }
 {
     state::add(state, values, ends, size)
@@ -551,8 +561,9 @@ pub extern "C" fn hll_state_add(
 /// Adds one value to a state, as `hll_state_add` does.
 #[unsafe(no_mangle)]
 pub extern "C" fn hll_state_add_value(state: &mut [[u8; 4]], size: &mut usize, value: &[u8]) -> u8
-    ensures added { AddsToState (Unit {0}) (coupon_of_bytes value.now ∷ []) state.old state.new size.old size.new result }
+    ensures added { AddsToState (TakesValues state.old) (coupon_of_bytes value.now ∷ []) state.old state.new size.old size.new result }
     ensures widths { KeepsWidths state.old state.new }
+    ensures lg_k_open { is_open state.new ≡ is_open state.old }
     ensures left { LeavesWhole state.old state.new }
 {
     state::add_value(state, value, size)
@@ -567,8 +578,9 @@ pub extern "C" fn hll_state_add_coupons(
     size: &mut usize,
     coupons: &[u32],
 ) -> u8
-    ensures added { AddsToState (HaveValues coupons.now) coupons.now state.old state.new size.old size.new result }
+    ensures added { AddsToState (HaveValues coupons.now × TakesValues state.old) coupons.now state.old state.new size.old size.new result }
     ensures widths { KeepsWidths state.old state.new }
+    ensures lg_k_open { is_open state.new ≡ is_open state.old }
     ensures left { LeavesWhole state.old state.new }
 {
     state::add_coupons(state, coupons, size)
@@ -577,7 +589,8 @@ pub extern "C" fn hll_state_add_coupons(
 /// Merges the sketch of an image into a state. The result is their union, with the state's `lg_k` as its bound.
 ///
 /// `lg_max_k` is 0 for no bound, or an `lg_k` of at least the state's. Without a bound, an empty state takes the `lg_k` of an
-/// image that isn't empty, or of an empty image if that is greater.
+/// image that isn't empty, or of an empty image if that is greater. If the `lg_k` of the state is open, a bound may be any
+/// `lg_k`: the state first becomes a new one of that `lg_k`. Without a bound, an image that isn't empty decides it.
 ///
 /// Returns 16 if there is no bound, neither the state nor the image is empty, and their `lg_k` differ. Returns 14 if there is
 /// not enough room, and sets `size` to a number of bytes that is enough. Returns `Argument` if `lg_max_k` is out of range or the
@@ -593,7 +606,7 @@ pub extern "C" fn hll_state_join(
 ) -> u8
     ensures joined { JoinsImage lg_max_k image.now state.old state.new size.old size.new result }
     ensures left { LeavesWhole state.old state.new }
-    ensures union { result ≡ 0 → ExtendsUnionByImage lg_max_k image.now state.old state.new }
+    ensures union { result ≡ 0 → is_open state.old ≡ false → ExtendsUnionByImage lg_max_k image.now state.old state.new }
 {
     join::join_image(alloc, lg_max_k, state, size, image)
 }
@@ -611,10 +624,23 @@ pub extern "C" fn hll_state_join_state(
 ) -> u8
     ensures joined { JoinsState lg_max_k other.old state.old state.new size.old size.new result }
     ensures left { OfState other.old IsWhole → LeavesWhole state.old state.new }
-    ensures union { result ≡ 0 → ExtendsUnionByState lg_max_k other.old state.old state.new }
+    ensures union { result ≡ 0 → is_open state.old ≡ false → ExtendsUnionByState lg_max_k other.old state.old state.new }
     ensures kept { IsOnlyRead other.old other.new }
 {
     join::join_state(lg_max_k, state, size, other)
+}
+
+/// Writes what a state says into `info`: how many bytes it takes, its `lg_k` and whether that is open, the width of the images
+/// that were merged, whether it has coupons or registers, and whether it is empty. `size` is the size of the caller's structure
+/// in bytes.
+///
+/// Returns `Argument` if `size` is not 16 or the elements are not a state. The state is only read: no byte of it changes.
+/// Allocates nothing.
+#[unsafe(no_mangle)]
+pub extern "C" fn hll_state_info(state: &[[u8; 4]], info: &mut HllStateInfo, size: usize) -> u8
+    ensures { Reports HllStateInfo (SaysStateInfo state.now) (RefusesStateInfo (size ≡ 16) state.now) info.old info.new result }
+{
+    report(state_info::info_of(state, size), info)
 }
 
 /// Writes the image of the sketch of a state into `out`, at a width. Its estimator fields are set if its estimate state is
@@ -633,6 +659,7 @@ pub extern "C" fn hll_state_image(
 ) -> u8
     ensures image { Answers (IsOfState width state.old) (RefusesState (IsWidth width) state.old) out.old out.new size.old size.new result }
     ensures kept { IsOnlyRead state.old state.new }
+    ensures settled { result ≡ 0 → IsSettled state.new }
 {
     state::put_image(alloc, state, width, out, size)
 }
@@ -645,6 +672,7 @@ pub extern "C" fn hll_state_image(
 pub extern "C" fn hll_state_estimate(state: &mut [[u8; 4]], estimate: &mut HllEstimate) -> u8
     ensures estimate { Reports HllEstimate (SaysEstimateOfState state.old) (RefusesEstimateOfState state.old) estimate.old estimate.new result }
     ensures kept { IsOnlyRead state.old state.new }
+    ensures settled { result ≡ 0 → IsSettled state.new }
 {
     report(state::estimate_of(state), estimate)
 }

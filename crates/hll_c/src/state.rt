@@ -14,14 +14,15 @@ ghost use Rattle.hll_sketch.specs.Value.{IsLgK, IsLegal};
 ghost use Rattle.hll_state.specs.Counter.{sketch_in, content_of, IsResolved, AreResolved};
 ghost use Rattle.hll_state.specs.Header.{IsWithin, AreWithin, HasRoom};
 ghost use Rattle.hll_state.specs.Header as headers;
-ghost use Rattle.hll_state.specs.Memory.{IsOnlyRead, KeepsWidths};
+ghost use Rattle.hll_state.specs.Memory.{HasHeader, IsOnlyRead, IsSettled, KeepsWidths};
+ghost use Rattle.hll_state.specs.Memory.{is_open as is_lg_k_open};
 ghost use Rattle.hll_state.specs.Registers.{values};
 ghost use Rattle.hll_c.specs.Answers.{buffer_code, Answers, IsImageOf, WithFields};
 ghost use Rattle.hll_c.specs.Batches.{AreEnds, strings};
 ghost use Rattle.hll_c.specs.ByteRegisters.{HaveValues};
 ghost use Rattle.hll_c.specs.Calls.{IsWidth};
 ghost use Rattle.hll_c.specs.Estimates.{IsEstimateOfContent};
-ghost use Rattle.hll_c.specs.States.{MakesState, AddsToState, IsOfState, SaysEstimateOfState, RefusesState};
+ghost use Rattle.hll_c.specs.States.{IsNewState, MakesState, TakesValues, AddsToState, IsOfState, SaysEstimateOfState, RefusesState};
 ghost use Rattle.hll_c.specs.declared.estimate.HllEstimate.{HllEstimate};
 
 use crate::answer::{BUFFER, OK, put_bytes};
@@ -29,6 +30,7 @@ use crate::arguments::{lg_k_of_number, width_of};
 use crate::batch::are_ends;
 use crate::byte_registers::have_values;
 use crate::estimate::{HllEstimate, estimate_of_coupons, estimate_of_registers};
+use hll_base::bounds::MIN_LG_K;
 use hll_base::error::{Error, Reason};
 use hll_base::hll_type::HllType;
 use hll_coupons::coupon::Coupon;
@@ -39,29 +41,51 @@ use hll_registers::registers::Registers;
 use hll_sketch::coupon_images::coupon_image;
 use hll_sketch::stage::stage;
 use hll_state::header::{CouponTable, HEADER_LEN, Header, Held};
-use hll_state::memory::{Begun, begin, close, has_raised, resolve};
+use hll_state::memory::{
+    Begun, add_in_place, begin, close, has_raised, is_open, resolve, set_open,
+};
 use hll_state::registers::small_registers;
 use std::alloc::Global;
 
-/// Makes the state of an empty sketch.
+/// Makes the state of an empty sketch. Its `lg_k` is open if `lg_k` is 0.
 pub(crate) fn new(lg_k: u32, state: &mut [[u8; 4]]) -> u8
     ensures { MakesState lg_k state.old state.new result }
 {
-    let Ok(lg_k) = lg_k_of_number(lg_k) else {
+    let is_open = lg_k == 0;
+    let least = if is_open { u32::from(MIN_LG_K) } else { lg_k };
+    let Ok(lg_k) = lg_k_of_number(least) else {
         return Reason::Argument.number();
     };
     if state.len() < HEADER_LEN {
         return BUFFER;
     }
-    close(state, Header::new(lg_k));
+    make(lg_k, is_open, state);
     OK
+}
+
+/// Makes the state of an empty sketch in enough elements, and returns its header.
+pub(crate) fn make(lg_k: u8, is_open: bool, state: &mut [[u8; 4]]) -> Header
+    requires lg_k { IsLgK lg_k }
+    requires there { 10 ≤ length state.old }
+    ensures made { IsNewState lg_k is_open state.new }
+    ensures has { HasHeader state.new result }
+    ensures header { result ≡ headers.new_header lg_k }
+{
+    let header = Header::new(lg_k);
+    close(state, header);
+    set_open(state, is_open);
+    header
 }
 
 /// Adds the coupons of byte strings.
 pub(crate) fn add(state: &mut [[u8; 4]], values: &[u8], ends: &[usize], size: &mut usize) -> u8
-    ensures added { AddsToState (AreEnds (length values.now) ends.now) (map coupon_of_bytes (strings values.now ends.now)) state.old state.new size.old size.new result }
+    ensures added { AddsToState (AreEnds (length values.now) ends.now × TakesValues state.old) (map coupon_of_bytes (strings values.now ends.now)) state.old state.new size.old size.new result }
     ensures widths { KeepsWidths state.old state.new }
+    ensures lg_k_open { is_lg_k_open state.new ≡ is_lg_k_open state.old }
 {
+    if is_open(state) {
+        return Reason::Argument.number();
+    }
     if !are_ends(ends, values.len()) {
         return Reason::Argument.number();
     }
@@ -104,9 +128,13 @@ fn push_values(header: &mut Header, body: &mut [[u8; 4]], values: &[u8], ends: &
 
 /// Adds raw coupons.
 pub(crate) fn add_coupons(state: &mut [[u8; 4]], coupons: &[u32], size: &mut usize) -> u8
-    ensures added { AddsToState (HaveValues coupons.now) coupons.now state.old state.new size.old size.new result }
+    ensures added { AddsToState (HaveValues coupons.now × TakesValues state.old) coupons.now state.old state.new size.old size.new result }
     ensures widths { KeepsWidths state.old state.new }
+    ensures lg_k_open { is_lg_k_open state.new ≡ is_lg_k_open state.old }
 {
+    if is_open(state) {
+        return Reason::Argument.number();
+    }
     if !have_values(coupons) {
         return Reason::Argument.number();
     }
@@ -123,13 +151,39 @@ pub(crate) fn add_coupons(state: &mut [[u8; 4]], coupons: &[u32], size: &mut usi
 
 /// Adds the coupon of a byte string.
 pub(crate) fn add_value(state: &mut [[u8; 4]], value: &[u8], size: &mut usize) -> u8
-    ensures added { AddsToState (Unit {0}) (coupon_of_bytes value.now ∷ []) state.old state.new size.old size.new result }
+    ensures added { AddsToState (TakesValues state.old) (coupon_of_bytes value.now ∷ []) state.old state.new size.old size.new result }
     ensures widths { KeepsWidths state.old state.new }
+    ensures lg_k_open { is_lg_k_open state.new ≡ is_lg_k_open state.old }
 {
     let raw = Coupon::from_bytes(value).raw();
     if has_raised(state, raw) {
         return OK;
     }
+    add_raw(state, raw, size)
+}
+
+/// Adds a raw coupon.
+#[inline(never)]
+fn add_raw(state: &mut [[u8; 4]], raw: u32, size: &mut usize) -> u8
+    ensures added { AddsToState (TakesValues state.old) (raw ∷ []) state.old state.new size.old size.new result }
+    ensures widths { KeepsWidths state.old state.new }
+    ensures lg_k_open { is_lg_k_open state.new ≡ is_lg_k_open state.old }
+{
+    if is_open(state) {
+        return Reason::Argument.number();
+    }
+    if add_in_place(state, raw) {
+        return OK;
+    }
+    add_with_room(state, raw, size)
+}
+
+/// Adds a raw coupon if there is room for it, and writes the header.
+fn add_with_room(state: &mut [[u8; 4]], raw: u32, size: &mut usize) -> u8
+    ensures added { AddsToState (Unit {0}) (raw ∷ []) state.old state.new size.old size.new result }
+    ensures widths { KeepsWidths state.old state.new }
+    ensures lg_k_open { is_lg_k_open state.new ≡ is_lg_k_open state.old }
+{
     match begin(state, 1) {
         Begun::NoState => Reason::Argument.number(),
         Begun::NoRoom(len) => too_small(len, size),
@@ -164,6 +218,7 @@ pub(crate) fn put_image(
 ) -> u8
     ensures image { Answers (IsOfState width state.old) (RefusesState (IsWidth width) state.old) out.old out.new size.old size.new result }
     ensures kept { IsOnlyRead state.old state.new }
+    ensures settled { result ≡ 0 → IsSettled state.new }
 {
     put_bytes(image_of(alloc, state, width), out, size)
 }
@@ -173,6 +228,7 @@ fn image_of(alloc: Global, state: &mut [[u8; 4]], width: u32) -> Result<Vec<u8>,
     ensures ok { IfOk result (λ image. IsImageOf (WithFields (IsOfState width state.old)) image.items) }
     ensures err { IfErr result (RefusesState (IsWidth width) state.old) }
     ensures kept { IsOnlyRead state.old state.new }
+    ensures settled { IfOk result (λ image. IsSettled state.new) }
 {
     let hll_type = width_of(width)?;
     let Some(header) = resolve(state) else {
@@ -184,7 +240,7 @@ fn image_of(alloc: Global, state: &mut [[u8; 4]], width: u32) -> Result<Vec<u8>,
 /// Returns the image, at a width, of the sketch of a state that `resolve` has made ready to be read.
 ///
 /// Fails with `Register` if a register is above 63, or with `Memory`.
-fn image_of_held(
+pub(crate) fn image_of_held(
     alloc: Global,
     header: Header,
     body: &[[u8; 4]],
@@ -280,6 +336,7 @@ pub(crate) fn estimate_of(state: &mut [[u8; 4]]) -> Result<HllEstimate, Error>
     ensures err { IfErr result (RefusesState (Unit {0}) state.old) }
     ensures needless { IfErr result (λ e. e ≢ Memory) }
     ensures kept { IsOnlyRead state.old state.new }
+    ensures settled { IfOk result (λ e. IsSettled state.new) }
 {
     let Some(header) = resolve(state) else {
         return Err(Error::new(Reason::Argument));

@@ -1,5 +1,5 @@
 // SPDX-License-Identifier: Apache-2.0
-//! A proved caller of the library: the example that CALLING.md shows.
+//! A proved caller of the library: the example that the README of this crate shows.
 #![tactic(auto)]
 
 ghost use Rattle.std.specs.Prelude.{◌≡◌, ◌≤◌, ◌⊎◌, ◌++◌, All, map, IfOk, IfErr};

@@ -10,7 +10,6 @@ ghost use Rattle.hll_coupons.specs.Table.{coupons_in, coupons_of};
 
 use crate::container::{Container, buckets_of};
 use crate::coupon::Coupon;
-use crate::raw_coupons::RawCouponIter;
 use hll_base::error::Error;
 use std::alloc::{Allocator, Global};
 use std::marker::Model;
@@ -69,32 +68,6 @@ impl<A: Allocator> CouponBatch<A> {
         appended
     }
 
-    /// Appends coupons from their raw coupons.
-    ///
-    /// Each raw coupon has to be that of a coupon with a value, and in total there are fewer than 2^26. Fails with
-    /// `Memory` if an allocation fails; then the batch is unchanged.
-    pub fn extend_from_raw_coupons(&mut self, raw_coupons: RawCouponIter<'_>) -> Result<(), Error>
-        requires pairs { All IsPair raw_coupons }
-        requires room { length self.old + length raw_coupons < 2 ^ 26 }
-        ensures ok { OnOk result (self.new ≡ self.old ++ raw_coupons.entry) }
-        ensures unchanged { OnErr result (self.new ≡ self.old) }
-        ensures err { IfErr result (λ e. e ≡ Memory) }
-    {
-        let count = self.coupons.len();
-        let appended = push_raw_coupons(&mut self.coupons, raw_coupons);
-        if appended.is_err() {
-            self.coupons.truncate(count);
-        }
-        appended
-    }
-
-    /// Removes all coupons, and keeps the memory.
-    pub fn clear(&mut self)
-        ensures { self.new ≡ [] }
-    {
-        self.coupons.clear();
-    }
-
     /// Sorts the coupons and removes repeated ones. Allocates nothing.
     fn sort(&mut self)
         ensures ascending { IsAscending self.new (set_of self.old) }
@@ -138,24 +111,6 @@ fn push_coupons_of_table<A: Allocator, B: Allocator>(
 {
     for coupon in table.iter() {
         coupons.push(coupon)?;
-    }
-    Ok(())
-}
-
-/// Appends coupons from their raw coupons, each of which is that of a coupon with a value.
-///
-/// Fails with `Memory` if an allocation fails; some coupons may have been appended by then.
-fn push_raw_coupons<A: Allocator>(
-    coupons: &mut Vec<Coupon, A>,
-    mut raw_coupons: RawCouponIter<'_>,
-) -> Result<(), Error>
-    requires { All IsPair raw_coupons }
-    ensures ok { OnOk result (coupons.new.items ≡ coupons.old.items ++ raw_coupons.entry) }
-    ensures some { OnErr result (take (length coupons.old.items) coupons.new.items ≡ coupons.old.items) }
-    ensures err { IfErr result (λ e. e ≡ Memory) }
-{
-    while let Some(raw_coupon) = raw_coupons.next() {
-        coupons.push(Coupon::from_raw(raw_coupon))?;
     }
     Ok(())
 }

@@ -6,7 +6,7 @@ use hll_base::error::Error;
 use hll_base::hll_type::HllType;
 use hll_sketch::coupon_images::coupon_image_with;
 use hll_sketch::{
-    HllSketch, HllUnion, UnionBuilder, agree, coupon_image_at, register_image_at, union_of,
+    HllSketch, HllUnion, agree, coupon_image_at, register_image_at, union_of,
     union_of_coupon_images,
 };
 use hll_text::fault::Fault;
@@ -26,12 +26,12 @@ enum UnionCall {
     UpdateNew,
     UpdateValue,
     UnionOf,
+    UnionOfThree,
     Agree,
     ImageTwice,
     ImageAt,
     ImageWith,
     RegistersAt,
-    Images,
 }
 
 /// A call on a union with a bound, of one 8-bit sketch, and on another sketch of some width.
@@ -45,7 +45,7 @@ struct UnionTrial<'h> {
     call: UnionCall,
 }
 
-/// A union, two sketches (the one in it, and the other one), and the image of the other one.
+/// A union, three sketches (the one in it, and the other one twice), and the image of the other one.
 type Joined<'h> = (HllUnion<&'h Heap>, Vec<HllSketch<&'h Heap>>, Vec<u8>);
 
 /// Returns a whole union, which is used up, as text: its bound and its gadget.
@@ -79,16 +79,17 @@ pub(crate) fn union_in(heap: &Heap, inside: Shape) -> Result<HllUnion<&Heap>, Fa
     union_with(heap, inside.0, &sketch)
 }
 
-/// Returns two sketches in a vector.
-fn pair_of<'h>(
+/// Returns a sketch, and another one twice, in a vector.
+fn three_of<'h>(
     alloc: Global,
     one: HllSketch<&'h Heap>,
     two: HllSketch<&'h Heap>,
 ) -> Result<Vec<HllSketch<&'h Heap>>, Fault> {
-    let mut both = Vec::new(alloc);
-    both.push(one)?;
-    both.push(two)?;
-    Ok(both)
+    let mut all = Vec::new(alloc);
+    all.push(one)?;
+    all.push(two.clone()?)?;
+    all.push(two)?;
+    Ok(all)
 }
 
 /// Turns a union into its sketch, and leaves an empty union with the same bound in its place.
@@ -125,28 +126,20 @@ impl<'h> UnionTrial<'h> {
                 shown(heap, coupon_image_with(heap, image, &mut more))
             }
             UnionCall::RegistersAt => shown(heap, register_image_at(heap, self.hll_type, image)),
-            UnionCall::Images => shown_union(heap, self.union_of_image_twice(image)),
             _ => shown(heap, coupon_image_at(heap, self.hll_type, image)),
         }
     }
 
-    /// Returns the union of an image with itself.
-    fn union_of_image_twice(&self, image: &[u8]) -> Result<HllUnion<&'h Heap>, Error> {
-        let mut union = UnionBuilder::new(HllUnion::new(self.heap, self.lg_max_k)?, self.heap);
-        union.update_with_image(image)?;
-        union.update_with_image(image)?;
-        union.build()
-    }
-
-    /// Returns what a call makes of two sketches.
-    fn made(&self, both: &[HllSketch<&'h Heap>]) -> Result<String, Fault> {
+    /// Returns what a call makes of two sketches, or of these and one of them once more.
+    fn made(&self, all: &[HllSketch<&'h Heap>]) -> Result<String, Fault> {
         let heap = self.heap;
-        let [one, two] = both else {
+        let [one, two, _] = all else {
             return Err(Fault::Stack);
         };
         match self.call {
             UnionCall::Agree => shown(heap, agree(one, two)),
-            _ => shown_union(heap, union_of(heap, self.lg_max_k, both)),
+            UnionCall::UnionOf => shown_union(heap, union_of(heap, self.lg_max_k, &all[..2])),
+            _ => shown_union(heap, union_of(heap, self.lg_max_k, all)),
         }
     }
 
@@ -173,22 +166,24 @@ impl<'h> Trial for UnionTrial<'h> {
         let union = union_with(self.heap, self.lg_max_k, &one)?;
         let two = sketch_in(self.heap, self.hll_type, self.incoming)?;
         let image = Vec::from_slice(self.heap.inner(), &two.serialize()?)?;
-        Ok((union, pair_of(self.heap.inner(), one, two)?, image))
+        Ok((union, three_of(self.heap.inner(), one, two)?, image))
     }
 
     fn call(&self, joined: &mut Joined<'h>) -> Result<String, Fault> {
-        let (union, both, image) = joined;
+        let (union, all, image) = joined;
         match self.call {
-            UnionCall::Agree | UnionCall::UnionOf => self.made(both.as_slice()),
-            UnionCall::Update => match both.get(1) {
+            UnionCall::Agree | UnionCall::UnionOf | UnionCall::UnionOfThree => {
+                self.made(all.as_slice())
+            }
+            UnionCall::Update => match all.get(1) {
                 Some(two) => shown(self.heap, union.update(two)),
                 None => Err(Fault::Stack),
             },
             UnionCall::UpdateImage => shown(self.heap, union.update_with_image(image)),
-            UnionCall::ImageTwice | UnionCall::ImageAt | UnionCall::ImageWith => {
-                self.image_made(image)
-            }
-            UnionCall::RegistersAt | UnionCall::Images => self.image_made(image),
+            UnionCall::ImageTwice
+            | UnionCall::ImageAt
+            | UnionCall::ImageWith
+            | UnionCall::RegistersAt => self.image_made(image),
             UnionCall::UpdateBuckets => {
                 let image = with_all_buckets(self.heap.inner(), image)?;
                 shown(self.heap, union.update_with_image(&image))
@@ -284,6 +279,10 @@ const UNION_CALLS: [(UnionCall, [[u64; 13]; 3]); 16] = [
         UnionCall::UnionOf,
         [[0, 1, 1, 0, 0, 1, 1, 2, 2, 1, 1, 1, 2]; 3],
     ),
+    (
+        UnionCall::UnionOfThree,
+        [[0, 4, 1, 0, 0, 6, 1, 2, 2, 1, 1, 1, 2]; 3],
+    ),
     (UnionCall::Agree, [[2; 13]; 3]),
     (
         UnionCall::ImageTwice,
@@ -303,14 +302,6 @@ const UNION_CALLS: [(UnionCall, [[u64; 13]; 3]); 16] = [
             [0; 13],
             [0, 0, 0, 0, 0, 0, 1, 1, 1, 0, 1, 1, 1],
             [0, 0, 0, 0, 0, 0, 1, 1, 1, 0, 1, 1, 1],
-        ],
-    ),
-    (
-        UnionCall::Images,
-        [
-            [0, 5, 0, 0, 0, 7, 17, 17, 5, 7, 13, 17, 5],
-            [0, 5, 0, 0, 0, 7, 1, 1, 1, 7, 1, 1, 1],
-            [0, 5, 0, 0, 0, 7, 1, 1, 1, 7, 1, 1, 1],
         ],
     ),
 ];

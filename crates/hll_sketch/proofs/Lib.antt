@@ -4,6 +4,7 @@ mod ImageRows
 pub mod Adding
 pub mod BorrowedCoupons
 pub mod Checks
+pub mod Collected
 pub mod CouponImages
 pub mod Differing
 pub mod Elements
@@ -45,11 +46,11 @@ pub mod Refusals
 pub mod RegisterImages
 pub mod Regrouping
 pub mod SameLemmas
+pub mod SameUnions
 pub mod SetFields
 mod SizedImages
 pub mod SortedCoupons
 pub mod Stages
 pub mod Steps
 pub mod Turns
-pub mod Waiting
 pub mod Written

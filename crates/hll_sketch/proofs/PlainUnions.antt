@@ -57,10 +57,10 @@ plain_with k (registers R s) T plain = of (join R (fold_to T k)) (pointwise nat_
 -- ---- a sketch is merged
 
 -- a gadget whose estimate state is plain
-record IsPlainGadget (m : ℕ) (g : Sketch) : Type 0 where
-  gadget : IsGadget m g
-  legal : IsLegal g
-  state : HasPlainState g.content
+pub record IsPlainGadget (m : ℕ) (g : Sketch) : Type 0 where
+  pub gadget : IsGadget m g
+  pub legal : IsLegal g
+  pub state : HasPlainState g.content
 
 module _ (m : ℕ) (g : Sketch) (is : IsPlainGadget m g) where
   same_empty : is_empty (cleared g) ≡ is_empty g
@@ -137,7 +137,7 @@ module _ (m : ℕ) (g : Sketch) (is : IsPlainGadget m g) where
 
 -- ---- all sketches
 
-all_plain : (m : ℕ) (g : Sketch) (xs : List Sketch) → IsPlainGadget m g → AllByRecursion IsPlain xs → IsPlainGadget m (merge_all m g xs) × (cleared (merge_all m g xs) ≡ merge_all m (cleared g) (map cleared xs))
+pub all_plain : (m : ℕ) (g : Sketch) (xs : List Sketch) → IsPlainGadget m g → AllByRecursion IsPlain xs → IsPlainGadget m (merge_all m g xs) × (cleared (merge_all m g xs) ≡ merge_all m (cleared g) (map cleared xs))
 all_plain m g [] is plain = (is, refl)
 all_plain m g (x ∷ xs) is plain =
     let next = all_plain m (merge m g x) xs (merge_plain m g is x plain.0) plain.1 in
@@ -150,21 +150,21 @@ itself : (c : Content) → HasClearedState c → HaveSameRegisters c c
 itself (coupons S size) is = absurd is
 itself (registers R s) is = refl
 
-one_filled : (x y z : Sketch) → FillsFields x y → FillsFields x z → y ≡ z
+pub one_filled : (x y z : Sketch) → FillsFields x y → FillsFields x z → y ≡ z
 one_filled x y z (filled c v) (filled d w) = same_fields_of_sketches x x y z refl refl (itself x.content c) v w
 one_filled x y z (filled c v) (stays n e) = absurd (n c)
 one_filled x y z (stays n e) (filled c v) = absurd (n c)
 one_filled x y z (stays n e) (stays m f) = e ∙ sym f
 
 -- with a plain state, setting the fields gives what it gives with the cleared state
-fills_cleared : (k : ℕ) (w : HllType) (c : Content) (y : Sketch) → HasPlainState c → let x : Sketch = record { lg_k = k; width = w; content = c } in FillsFields x y → FillsFields (cleared x) y
+pub fills_cleared : (k : ℕ) (w : HllType) (c : Content) (y : Sketch) → HasPlainState c → let x : Sketch = record { lg_k = k; width = w; content = c } in FillsFields x y → FillsFields (cleared x) y
 fills_cleared k w (coupons S size) y plain fills = fills
 fills_cleared k w (registers R s) y plain (filled c sets) = filled refl (record { lg_k = sets.lg_k; width = sets.width; content = sets.content })
 fills_cleared k w (registers R s) y (inl c) (stays n e) = absurd (n c)
 fills_cleared k w (registers R s) y (inr fields) (stays n e) =
     filled refl (record { lg_k = ap (λ (z : Sketch). z.lg_k) e; width = ap (λ (z : Sketch). z.width) e; content = (s, fields, ap (λ (z : Sketch). z.content) e) })
 
-empty_plain : (m : ℕ) → IsLgK m → IsPlainGadget m (empty_union m)
+pub empty_plain : (m : ℕ) → IsLgK m → IsPlainGadget m (empty_union m)
 empty_plain m is = record {
   gadget = record { width = refl; lg_k = omega arith; coupons = λ h. refl; registers = λ h. absurd (true≢false (sym h)) };
   legal = record { lg_k = is; content = (λ c h. absurd (true≢false (sym h ∙ contains-empty nat_cmp c)), inl (refl, omega (arith, len-empty nat_cmp))) };

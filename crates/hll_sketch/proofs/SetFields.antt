@@ -66,7 +66,7 @@ same_size (coupons S p) = refl
 same_size (registers R s) = tt
 
 -- what is written for a sketch is one list of bytes
-one_written : (x : Sketch) (a b : List ℕ) → IsLegal x → Written a x → Written b x → a ≡ b
+pub one_written : (x : Sketch) (a b : List ℕ) → IsLegal x → Written a x → Written b x → a ≡ b
 one_written x a b legal u v = (same_bytes x x a b legal legal (same_size x.content) u v).1 (record { lg_k = refl; width = refl; content = equal_content x.content })
 
 pub same_registers_same_bytes : SameRegistersSameBytes

@@ -5,6 +5,7 @@ pub mod Borrowed
 pub mod BorrowedImage
 pub mod BorrowedRegisters
 pub mod Checks
+pub mod Collected
 pub mod CouponImages
 pub mod EstimatorFields
 pub mod Fault
@@ -24,10 +25,10 @@ pub mod Refusal
 pub mod RegisterImages
 pub mod RegisterTotals
 pub mod Same
+pub mod SameUnions
 pub mod Stage
 pub mod MergedIn
 pub mod Union
 pub mod Updatable
 pub mod Value
-pub mod Waiting
 pub mod Written

@@ -9,6 +9,7 @@ ghost use Rattle.hll_sketch.specs.EstimatorFields.{FieldsKeep, FieldsTwice, Same
 ghost use Rattle.hll_sketch.specs.PlainStates.{UnionOfPlain, FilledIsPlain};
 ghost use Rattle.hll_sketch.specs.Folding.{FoldedIsLegal, FoldedIsCanonical, FoldedHasSameFolds};
 ghost use Rattle.hll_sketch.specs.Same.{SameIsEqual};
+ghost use Rattle.hll_sketch.specs.SameUnions.{UnionsInAnyOrder, UnionsInGroups, UnionsAreCanonical};
 ghost use Rattle.hll_sketch.specs.Image.{OneImage, ImageIsLegal};
 ghost use Rattle.hll_sketch.specs.Checks.{FirstFaultStands, FaultlessIsImage};
 ghost use Rattle.hll_sketch.specs.Fault.{FaultExcludesHeader, FaultExcludesImage, FaultsAreOfData};
@@ -126,4 +127,17 @@ pub fn estimator_fields()
     ensures same_registers_same_bytes { SameRegistersSameBytes }
     ensures union_of_plain { UnionOfPlain }
     ensures filled_is_plain { FilledIsPlain }
+{}
+
+/// Laws of the bytes of unions. The sketches are legal and canonical: their coupons have the smallest table that holds them, and
+/// their estimator fields are cleared or set. The estimator fields of the unions are set.
+///
+/// - `unions_in_any_order`: unions under one bound of the same sketches have the same bytes at each width. Neither the order of
+///   the sketches matters, nor how often each was merged, nor whether its estimator fields are set.
+/// - `unions_in_groups`: some sketches may be merged first, under the same bound and at any width: the bytes are the same.
+/// - `unions_are_canonical`: the union is legal and canonical too, so that it can be merged again.
+pub fn bytes_of_unions()
+    ensures unions_in_any_order { UnionsInAnyOrder }
+    ensures unions_in_groups { UnionsInGroups }
+    ensures unions_are_canonical { UnionsAreCanonical }
 {}

@@ -29,7 +29,7 @@ mod sorted;
 pub mod stage;
 pub mod totals;
 pub mod union;
-pub mod union_builder;
+pub mod unions;
 mod updatable;
 
 pub use coupon_images::{coupon_image_at, image_of_coupons, union_of_coupon_images};
@@ -40,4 +40,4 @@ pub use register_images::register_image_at;
 pub use sketch::HllSketch;
 pub use totals::{RegisterTotals, register_totals};
 pub use union::{HllUnion, agree};
-pub use union_builder::{UnionBuilder, union_of};
+pub use unions::union_of;

@@ -24,7 +24,7 @@ use std::marker::Model;
 
 /// A union: a bound of the `lg_k`, and a gadget that sketches are merged into. The gadget is a sketch with a width of 8 bits:
 /// it has coupons at the bound, or registers at the bound or at a smaller `lg_k`. Contracts see the bound and the gadget.
-// More methods are in the module merge.
+// More methods are in the modules merge and unions.
 #[derive_where(Debug)]
 #[derive(Drop)]
 pub struct HllUnion<A: Allocator = Global> {

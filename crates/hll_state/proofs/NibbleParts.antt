@@ -1,6 +1,6 @@
 -- SPDX-License-Identifier: Apache-2.0
 -- The maximum with 4-bit registers: with their nibbles first, and then with each exception.
-use Rattle.std.proofs.Common.{◌≡◌, ℕ, ◌+◌, ◌-◌, ◌*◌, ◌/◌, ◌%◌, ◌^◌, ◌<◌, ◌≤◌, List, ◌++◌, Option, Some, None, length, get_or, take, drop, refl, sym, ap, subst, ◌∙◌, arith, inl, inr, take-append-drop}
+use Rattle.std.proofs.Common.{◌≡◌, ℕ, ◌+◌, ◌-◌, ◌*◌, ◌/◌, ◌%◌, ◌^◌, ◌<◌, ◌≤◌, List, ◌++◌, Option, Some, None, length, get_or, take, drop, refl, sym, ap, ◌∙◌, arith, inl, inr, take-append-drop}
 use Rattle.std.specs.Option.{option_map}
 use Rattle.std.specs.Prelude.{max, unwrap_or}
 use Rattle.std.proofs.lemmas.Bool.{cases_lt}
@@ -14,7 +14,7 @@ use Rattle.hll_coupons.specs.AuxMap.{entries_in, value_in, ExceptionMap, IsMap}
 use Rattle.hll_kernels.specs.Lanes.{nibble_values}
 use Rattle.hll_kernels.proofs.FourBitLanes.{length-nibble_values, nibble_values-append}
 use Rattle.hll_registers.specs.FourBits.{exception_in, unpacked, ArePartsOf, IsMapFor}
-use Rattle.hll_registers.proofs.FourBitReading.{AgreeAbove, legal, small_minimum}
+use Rattle.hll_registers.proofs.FourBitReading.{AgreeAbove, legal}
 use Rattle.hll_registers.proofs.FourBitStores.{joined, raised_at}
 
 -- ---- whole blocks

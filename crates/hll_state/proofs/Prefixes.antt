@@ -1,13 +1,14 @@
 -- SPDX-License-Identifier: Apache-2.0
 -- A state in a prefix of its elements that has all that are needed, and in more elements.
-use Rattle.std.proofs.Common.{◌≡◌, ℕ, ◌+◌, ◌-◌, ◌^◌, ◌≤◌, List, [], ◌∷◌, ◌++◌, length, take, drop, suc, sym, ap, ◌∙◌, arith}
+use Rattle.std.proofs.Common.{◌≡◌, ℕ, ◌+◌, ◌-◌, ◌^◌, ◌≤◌, List, [], ◌∷◌, ◌++◌, length, take, drop, suc, refl, sym, ap, ◌∙◌, arith}
 use Rattle.std.proofs.lemmas.List.{length-take, length-append, take-take, take_at, drop-take}
 use Rattle.hll_base.specs.declared.hll_type.HllType.TheVariants.{Hll8}
 use Rattle.hll_coupons.specs.Pair.{set_of}
 use Rattle.hll_sketch.specs.Value.{Sketch, registers}
 use Rattle.hll_state.specs.Counter.{sketch_in, content_of, content_of_coupons}
 use Rattle.hll_state.specs.CouponRun.{raws}
-use Rattle.hll_state.specs.Header.{header_of, IsHeldWithin}
+use Rattle.hll_state.specs.Header.{header_of, IsHeldWithin, IsWithin}
+use Rattle.hll_state.specs.Memory.{is_open}
 use Rattle.hll_state.specs.Prefixes.{needed, PrefixIsState, LongerIsState}
 use Rattle.hll_state.specs.Registers.{values}
 use Rattle.hll_state.specs.declared.header.Header.{Header}
@@ -20,7 +21,7 @@ use Rattle.hll_state.proofs.Rooms.{used_within}
 ten : (m : ℕ) → 10 + m ≡ suc (suc (suc (suc (suc (suc (suc (suc (suc (suc m)))))))))
 ten m = omega arith
 
-read_prefix : (xs : List (List ℕ)) (m : ℕ) → 10 ≤ length xs → header_of (raws (take (10 + m) xs)) ≡ header_of (raws xs)
+pub read_prefix : (xs : List (List ℕ)) (m : ℕ) → 10 ≤ length xs → header_of (raws (take (10 + m) xs)) ≡ header_of (raws xs)
 read_prefix [] m there = absurd (omega (arith, there))
 read_prefix (a ∷ []) m there = absurd (omega (arith, there))
 read_prefix (a ∷ b ∷ []) m there = absurd (omega (arith, there))
@@ -32,6 +33,12 @@ read_prefix (a ∷ b ∷ d ∷ e ∷ f ∷ g ∷ i ∷ []) m there = absurd (ome
 read_prefix (a ∷ b ∷ d ∷ e ∷ f ∷ g ∷ i ∷ j ∷ []) m there = absurd (omega (arith, there))
 read_prefix (a ∷ b ∷ d ∷ e ∷ f ∷ g ∷ i ∷ j ∷ k ∷ []) m there = absurd (omega (arith, there))
 read_prefix (a ∷ b ∷ d ∷ e ∷ f ∷ g ∷ i ∷ j ∷ k ∷ l ∷ rest) m there = ap (λ n. header_of (raws (take n (a ∷ b ∷ d ∷ e ∷ f ∷ g ∷ i ∷ j ∷ k ∷ l ∷ rest)))) (ten m)
+
+-- the second of at least two elements, whatever is after them
+open_prefix : (xs : List (List ℕ)) (m : ℕ) → 10 ≤ length xs → is_open (take (10 + m) xs) ≡ is_open xs
+open_prefix [] m there = absurd (omega (arith, there))
+open_prefix (a ∷ []) m there = absurd (omega (arith, there))
+open_prefix (a ∷ b ∷ rest) m there = ap (λ n. is_open (take n (a ∷ b ∷ rest))) (ten m)
 
 rest_prefix : (xs : List (List ℕ)) (m : ℕ) → drop 10 (take (10 + m) xs) ≡ take m (drop 10 xs)
 rest_prefix xs m = drop-take 10 m xs
@@ -68,8 +75,20 @@ prefix_is_state elements h m has fits = record {
           (omega (arith, length-take (10 + m) elements, fits, needed_within h.lg_k h.held (length elements - 10) has.within.held));
     };
   };
+  lg_k_open = open_prefix elements m has.there;
   same = ap (sketch_in h) (rest_prefix elements m) ∙ same_in h (length elements - 10) m (drop 10 elements) has.within.held fits;
 }
+
+-- more elements after those that a header needs change nothing
+pub longer_body : (h : Header) (body more : List (List ℕ)) → IsWithin h (length body) → IsWithin h (length (body ++ more)) × (sketch_in h (body ++ more) ≡ sketch_in h body)
+longer_body h body more within =
+    let m : ℕ = length body in
+    let all : List (List ℕ) = body ++ more in
+    let fits : needed h.lg_k h.held ≤ m = needed_within h.lg_k h.held m within.held in
+    let held : IsHeldWithin h.lg_k h.held (length all) = held_within h.lg_k h.held m (length all) within.held (omega (arith, fits, length-append body more)) in (
+      record { lg_k = within.lg_k; widths = within.widths; held = held },
+      sym (same_in h (length all) m all held fits) ∙ ap (sketch_in h) (take_at body more m refl),
+    )
 
 -- elements are a prefix of themselves and others
 own_prefix : (elements more : List (List ℕ)) → 10 ≤ length elements → take (10 + (length elements - 10)) (elements ++ more) ≡ elements
@@ -90,5 +109,6 @@ longer_is_state elements more h has =
         read = sym (read_prefix all m there) ∙ ap (λ xs. header_of (raws xs)) own ∙ has.read;
         within = record { lg_k = has.within.lg_k; widths = has.within.widths; held = held };
       };
+      lg_k_open = sym (open_prefix all m there) ∙ ap is_open own;
       same = sym (same_in h (length all - 10) m (drop 10 all) held fits) ∙ ap (sketch_in h) (sym (rest_prefix all m)) ∙ ap (λ xs. sketch_in h (drop 10 xs)) own;
     }

@@ -26,6 +26,10 @@ stays_cleared old new = of (pointwise nat_eq old new)
     of true = refl
     of false = refl
 
+-- coupons added in turn are added together
+pub all_added : (x : Sketch) (order : List ℕ) → 1 ≤ length order → add_in_turn x order ≡ add x (set_of order)
+all_added x order some = in_turn x order (λ none. omega (arith, some, ap length (listed-none order none)))
+
 pub all_raised : (h : Header) → h.held ≡ of_registers cleared_state → (old new : List (List ℕ)) (order : List ℕ) → 1 ≤ length order
     → values (take (2 ^ (h.lg_k - 2)) new) ≡ join (values (take (2 ^ (h.lg_k - 2)) old)) (fold_to (set_of order) h.lg_k)
     → sketch_in h new ≡ add_in_turn (sketch_in h old) order
@@ -36,5 +40,5 @@ all_raised h is old new order some raised =
     let was : Sketch = record { lg_k = h.lg_k; width = Hll8; content = registers R cleared_state } in
     let added : now ≡ add was (set_of order) = λ i. record { lg_k = h.lg_k; width = Hll8; content = registers (raised i) (stays_cleared R (join R (fold_to (set_of order) h.lg_k)) i) } in
     ap (λ held. let x : Sketch = record { lg_k = h.lg_k; width = Hll8; content = content_of h.lg_k held new } in x) is
-    ∙ added ∙ sym (in_turn was order (λ none. omega (arith, some, ap length (listed-none order none))))
+    ∙ added ∙ sym (all_added was order some)
     ∙ ap (λ held. let x : Sketch = record { lg_k = h.lg_k; width = Hll8; content = content_of h.lg_k held old } in add_in_turn x order) (sym is)

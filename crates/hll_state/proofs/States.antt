@@ -1,22 +1,23 @@
 -- SPDX-License-Identifier: Apache-2.0
 -- States in elements.
-use Rattle.std.proofs.Common.{◌≡◌, ℕ, ◌-◌, ◌^◌, ◌<◌, ◌≤◌, List, ◌++◌, length, take, drop, take-append-drop, true, Some, sym, ap, subst, ◌∙◌, arith, refl}
+use Rattle.std.proofs.Common.{◌≡◌, ℕ, ◌+◌, ◌-◌, ◌^◌, ◌<◌, ◌≤◌, List, [], ◌∷◌, ◌++◌, length, take, drop, take-append-drop, Some, sym, ap, subst, ◌∙◌, arith, refl}
 use Rattle.std.specs.Prelude.{max}
 use Rattle.std.proofs.Math.Pow.{pow_mono}
-use Rattle.std.proofs.lemmas.Bool.{true≢false}
 use Rattle.std.proofs.Math.Seq.{drop-append_seam}
-use Rattle.std.proofs.lemmas.List.{length-append, length-take-le}
+use Rattle.std.proofs.lemmas.List.{length-append, length-take-le, take_at}
 use Rattle.std.proofs.lemmas.List.{length-drop, take_all, drop_all, append-nil}
 use borrow.Rule.Slice.PartMut.{mid_of, put_mid}
 use Rattle.hll_sketch.specs.Value.{Sketch, IsLegal, IsLegalContent}
 use Rattle.hll_state.specs.Counter.{sketch_in, content_of, IsHeldResolved}
-use Rattle.hll_state.specs.Header.{has_registers, IsWithin, HasRoom, HasShortTail, most_used}
+use Rattle.hll_state.specs.CouponRun.{raws}
+use Rattle.hll_state.specs.Header.{header_of, IsWithin, HasRoom, HasShortTail, most_used}
 use Rattle.hll_state.specs.Joined.{AreEnoughToMerge}
-use Rattle.hll_state.specs.Memory.{HasHeader, IsStateOf, OfState, HasWidths, KeepsWidths, IsOnlyRead, IsReady, AreEnough}
+use Rattle.hll_state.specs.Memory.{HasHeader, IsStateOf, OfState, HasWidths, KeepsWidths, IsOnlyRead, IsReady, AreEnough, is_open}
 use Rattle.hll_state.specs.Merged.{AreHeldRegistersLegal, HasLegalRegisters}
 use Rattle.hll_state.specs.declared.header.Header.{Header}
 use Rattle.hll_state.specs.declared.header.Held.{Held}
 use Rattle.hll_state.specs.declared.header.Held.TheVariants.{Coupons, Registers}
+use Rattle.hll_state.proofs.Prefixes.{read_prefix}
 
 -- elements have one header
 pub one_header : (elements : List (List ℕ)) (g h : Header) → HasHeader elements g → HasHeader elements h → g ≡ h
@@ -35,6 +36,30 @@ rest_written elements body there =
     let k : ℕ = length elements - 10 in
     rest_of elements (body ++ drop k (drop 10 elements)) there
     ∙ ap (λ zs. body ++ zs) (drop_all k (drop 10 elements) (omega (arith, length-drop 10 elements))) ∙ append-nil body
+
+-- they are as many as before, and the first ten say what they said
+pub size_written : (elements body : List (List ℕ)) → 10 ≤ length elements → length body ≡ length elements - 10 → length (put_mid 10 (length elements - 10) elements body) ≡ length elements
+size_written elements body there l =
+    let k : ℕ = length elements - 10 in
+    let after : List (List ℕ) = drop k (drop 10 elements) in
+    omega (
+      arith,
+      there,
+      l,
+      length-append (take 10 elements) (body ++ after),
+      length-append body after,
+      length-drop k (drop 10 elements),
+      length-drop 10 elements,
+      length-take-le 10 elements there,
+    )
+
+front_written : (elements body : List (List ℕ)) → 10 ≤ length elements → take (10 + 0) (put_mid 10 (length elements - 10) elements body) ≡ take (10 + 0) elements
+front_written elements body there = take_at (take 10 elements) (body ++ drop (length elements - 10) (drop 10 elements)) 10 (length-take-le 10 elements there)
+
+read_written : (elements body : List (List ℕ)) → 10 ≤ length elements → length body ≡ length elements - 10 → header_of (raws (put_mid 10 (length elements - 10) elements body)) ≡ header_of (raws elements)
+read_written elements body there l =
+    let written : List (List ℕ) = put_mid 10 (length elements - 10) elements body in
+    sym (read_prefix written 0 (omega (arith, there, size_written elements body there l))) ∙ ap (λ xs. header_of (raws xs)) (front_written elements body there) ∙ read_prefix elements 0 there
 
 -- the header that is read of a state is its own, whatever is written over the elements after it
 pub opened : (elements body : List (List ℕ)) (h g : Header) → HasHeader elements h → sketch_in g body ≡ sketch_in h (mid_of 10 (length elements - 10) elements)
@@ -70,9 +95,27 @@ pub read_own : (elements : List (List ℕ)) → IsOnlyRead elements elements
 read_own elements = record {
   kept = λ s. record { sketch = sketch_in s.header (drop 10 elements); was = means elements s.header s.has; is = means elements s.header s.has };
   widths = keeps_own elements;
-  registers = λ h has in_registers. refl;
+  resolved = λ h has is. refl;
   unchanged = λ none. refl;
+  lg_k_open = refl;
 }
+
+-- ---- an open lg_k
+
+-- it stays if only elements after the header are written
+pub open_written : (elements body : List (List ℕ)) → 10 ≤ length elements → is_open (put_mid 10 (length elements - 10) elements body) ≡ is_open elements
+open_written [] body there = absurd (omega (arith, there))
+open_written (a ∷ []) body there = absurd (omega (arith, there))
+open_written (a ∷ b ∷ rest) body there = refl
+
+-- elements of the same length that say the same have the same header
+pub same_header : (old new : List (List ℕ)) (h : Header) → HasHeader old h → header_of (raws new) ≡ header_of (raws old) → length new ≡ length old → HasHeader new h
+same_header old new h has same long = record { there = omega (arith, has.there, long); read = same ∙ has.read; within = subst (λ l. IsWithin h (l - 10)) (sym long) has.within }
+
+-- elements whose header is not written keep it
+pub written_header : (elements body : List (List ℕ)) (h : Header) → HasHeader elements h → length body ≡ length elements - 10 → HasHeader (put_mid 10 (length elements - 10) elements body) h
+written_header elements body h has l =
+    same_header elements (put_mid 10 (length elements - 10) elements body) h has (read_written elements body has.there l) (size_written elements body has.there l)
 
 -- ---- repeated coupons
 
@@ -80,10 +123,6 @@ read_own elements = record {
 pub resolved_short : (k : ℕ) (held : Held) (body : List (List ℕ)) → IsHeldResolved k held body → HasShortTail held
 resolved_short k (Coupons c) body resolved = omega (arith, resolved.settled)
 resolved_short k (Registers s) body resolved = tt
-
-pub registers_resolved : (k : ℕ) (held : Held) (body : List (List ℕ)) → has_registers held ≡ true → IsHeldResolved k held body
-registers_resolved k (Coupons c) body is = absurd (true≢false (sym is))
-registers_resolved k (Registers s) body is = tt
 
 -- ---- a state that is ready for n coupons
 
@@ -98,21 +137,7 @@ module _ (n : ℕ) (old new : List (List ℕ)) (h : Header) (ready : IsReady n o
   ready_room = subst (HasRoom h n) (sym ready_size) ready.room
 
   pub written_size : (body : List (List ℕ)) → length body ≡ length (mid_of 10 (length new - 10) new) → length (put_mid 10 (length new - 10) new body) ≡ length old
-  written_size body l =
-      let k : ℕ = length new - 10 in
-      let after : List (List ℕ) = drop k (drop 10 new) in
-      omega (
-        arith,
-        ready.there,
-        same,
-        l,
-        ready_size,
-        length-append (take 10 new) (body ++ after),
-        length-append body after,
-        length-drop k (drop 10 new),
-        length-drop 10 new,
-        length-take-le 10 new (omega (arith, ready.there, same)),
-      )
+  written_size body l = size_written new body (omega (arith, ready.there, same)) (omega (arith, l, ready_size, same)) ∙ same
 
   pub written_within : (body : List (List ℕ)) → length body ≡ length (mid_of 10 (length new - 10) new) → length (mid_of 10 (length new - 10) new) ≡ length (put_mid 10 (length new - 10) new body) - 10
   written_within body l = ready_size ∙ ap (λ m. m - 10) (sym (written_size body l))

@@ -26,12 +26,12 @@ coupons_in_header ws = record {
 abbrev pub state_in_header : List ℕ → EstimateState
 state_in_header ws = record { words = wide ws 4 ∷ wide ws 6 ∷ wide ws 8 ∷ []; out_of_order = slice_index ws 3 == 1 }
 
--- the first number distinguishes coupons from registers
+-- the first number distinguishes coupons from registers; its highest byte is the version of states, 2
 abbrev pub coupons_tag : ℕ
-coupons_tag = 1279806529
+coupons_tag = 38292545
 
 abbrev pub registers_tag : ℕ
-registers_tag = 1279806530
+registers_tag = 38292546
 
 abbrev pub held_in_header : List ℕ → Option Held
 held_in_header ws =

@@ -1,11 +1,11 @@
 -- SPDX-License-Identifier: Apache-2.0
 -- States in caller-owned memory: a header in the first ten elements, and the coupons or registers after it
 -- (docs/MODEL.md, "States of a counter").
-use Rattle.std.specs.Prelude.{◌≡◌, ℕ, ◌+◌, ◌-◌, ◌≤◌, true, List, length, drop, Some}
+use Rattle.std.specs.Prelude.{◌≡◌, ℕ, ◌+◌, ◌-◌, ◌/◌, ◌%◌, ◌≤◌, ◌==◌, Bool, List, length, drop, slice_index, Some}
 use Rattle.hll_sketch.specs.Value.{Sketch}
-use Rattle.hll_state.specs.Counter.{sketch_in}
+use Rattle.hll_state.specs.Counter.{sketch_in, IsResolved}
 use Rattle.hll_state.specs.CouponRun.{raws}
-use Rattle.hll_state.specs.Header.{header_of, has_registers, most_elements, IsWithin, HasRoom, HasShortTail, len_asked}
+use Rattle.hll_state.specs.Header.{header_of, most_elements, IsWithin, HasRoom, HasShortTail, len_asked}
 use Rattle.hll_state.specs.declared.header.Header.{Header}
 use Rattle.hll_state.specs.declared.memory.Begun.{Begun}
 use Rattle.hll_state.specs.declared.memory.Begun.TheVariants.{NoState, NoRoom, Room}
@@ -15,6 +15,10 @@ pub record HasHeader (elements : List (List ℕ)) (h : Header) : Type 0 where
   pub there : 10 ≤ length elements
   pub read : header_of (raws elements) ≡ Some h
   pub within : IsWithin h (length elements - 10)
+
+-- the lg_k of a state is open, as bit 5 of the second number says, until a sketch with coupons or registers is merged
+abbrev pub is_open : List (List ℕ) → Bool
+is_open elements = slice_index (raws elements) 1 / 32 % 2 == 1
 
 -- the elements are a state
 pub record IsState (elements : List (List ℕ)) : Type 0 where
@@ -44,12 +48,18 @@ HasWidths elements widths = (h : Header) → HasHeader elements h → h.widths �
 abbrev pub KeepsWidths : List (List ℕ) → List (List ℕ) → Type 0
 KeepsWidths old new = (h : Header) → HasHeader old h → HasWidths new h.widths
 
--- a state is only read, and its sketch and widths are unchanged; elements that hold registers or are not a state are unchanged
+-- the sketch of a state can be read from the elements as they are, so that reading it changes none
+abbrev pub IsSettled : List (List ℕ) → Type 0
+IsSettled elements = (h : Header) → HasHeader elements h → IsResolved h (drop 10 elements)
+
+-- a state is only read, and its sketch and widths are unchanged; elements are unchanged if they hold registers, if they hold
+-- coupons that ascend, or if they are not a state
 pub record IsOnlyRead (old new : List (List ℕ)) : Type 0 where
   pub kept : IsState old → OfState old (IsStateOf new)
   pub widths : KeepsWidths old new
-  pub registers : (h : Header) → HasHeader old h → has_registers h.held ≡ true → new ≡ old
+  pub resolved : (h : Header) → HasHeader old h → IsResolved h (drop 10 old) → new ≡ old
   pub unchanged : (IsState old → ⊥) → new ≡ old
+  pub lg_k_open : is_open new ≡ is_open old
 
 -- this number of elements is asked for; it is enough to add n coupons to a state, and no more than any state of its lg_k needs;
 -- repeated coupons were dropped, unless the tail is short
@@ -75,6 +85,7 @@ pub record LacksRoom (n : ℕ) (old new : List (List ℕ)) (len : ℕ) : Type 0 
   pub widths : KeepsWidths old new
   pub lacks : HasRoomIn old n (length old) → ⊥
   pub enough : AreEnough new n len
+  pub lg_k_open : is_open new ≡ is_open old
 
 -- there is room, and this header with the elements after the first ten has the sketch and the widths of the state
 pub record IsReady (n : ℕ) (old new : List (List ℕ)) (h : Header) : Type 0 where
@@ -83,6 +94,7 @@ pub record IsReady (n : ℕ) (old new : List (List ℕ)) (h : Header) : Type 0 w
   pub room : HasRoom h n (length old - 10)
   pub means : OfState old (λ x. x ≡ sketch_in h (drop 10 new))
   pub widths : HasWidths old h.widths
+  pub lg_k_open : is_open new ≡ is_open old
 
 abbrev pub IsBegun : ℕ → List (List ℕ) → List (List ℕ) → Begun → Type 0
 IsBegun n old new NoState = IsNone old new

@@ -3,7 +3,7 @@
 use Rattle.std.specs.Prelude.{◌≡◌, ℕ, ◌+◌, ◌-◌, ◌^◌, ◌≤◌, List, ◌++◌, take, drop}
 use Rattle.hll_state.specs.Counter.{sketch_in}
 use Rattle.hll_state.specs.Header.{elements_for}
-use Rattle.hll_state.specs.Memory.{HasHeader}
+use Rattle.hll_state.specs.Memory.{HasHeader, is_open}
 use Rattle.hll_state.specs.declared.header.Header.{Header}
 use Rattle.hll_state.specs.declared.header.Held.{Held}
 use Rattle.hll_state.specs.declared.header.Held.TheVariants.{Coupons, Registers}
@@ -13,9 +13,10 @@ abbrev pub needed : ℕ → Held → ℕ
 needed k (Coupons c) = elements_for k c.run.used
 needed k (Registers s) = 2 ^ (k - 2)
 
--- other elements are a state with this header, and of the same sketch
+-- other elements are a state with this header, and of the same sketch; its lg_k is open if that of the first is
 pub record IsSameState (elements : List (List ℕ)) (h : Header) (others : List (List ℕ)) : Type 0 where
   pub has : HasHeader others h
+  pub lg_k_open : is_open others ≡ is_open elements
   pub same : sketch_in h (drop 10 others) ≡ sketch_in h (drop 10 elements)
 
 -- ---- laws

@@ -1,19 +1,22 @@
 // SPDX-License-Identifier: Apache-2.0
 //! A state: a header, and the elements after it. Coupons are added to it, and resolved so that its sketch can be read.
-ghost use Rattle.std.specs.Prelude.{◌≡◌, ℕ, ◌+◌, ◌-◌, ◌^◌, ◌<◌, ◌≤◌, ◌∷◌, [], true, length};
+ghost use Rattle.std.specs.Prelude.{◌≡◌, ◌≢◌, ◌↔◌, ℕ, ◌+◌, ◌-◌, ◌^◌, ◌<◌, ◌≤◌, ◌∷◌, [], true, false, None, IsTrue, length};
 ghost use Rattle.hll_coupons.specs.Pair.{Pairs, set_of};
 ghost use Rattle.hll_registers.specs.State.{state_after};
 ghost use Rattle.hll_sketch.specs.Adding.{add, content_with};
 ghost use Rattle.hll_sketch.specs.Laws.{add_in_turn};
+ghost use Rattle.hll_sketch.specs.Stage as stages;
 ghost use Rattle.hll_sketch.specs.Value.{IsLgK};
-ghost use Rattle.hll_state.specs.Counter.{sketch_in, content_of, IsHeldResolved, IsResolved};
+ghost use Rattle.hll_state.specs.Counter.{sketch_in, content_of, IsHeldResolved, IsResolved, AreResolved};
+ghost use Rattle.hll_state.specs.CouponRun.{raws};
 ghost use Rattle.hll_state.specs.Header as spec;
-ghost use Rattle.hll_state.specs.Header.{AreWithin, IsHeldWithin, IsWithin, HasRoomFor, HasRoom, HasElementLeft};
+ghost use Rattle.hll_state.specs.Header.{most_used, AreWithin, IsHeldWithin, IsWithin, HasRoomFor, HasRoom, HasElementLeft};
 ghost use Rattle.hll_state.specs.Merged.{used_in};
 ghost use Rattle.hll_state.specs.Registers.{values};
 
 use crate::header::{CouponTable, Header, Held, most_used};
 use crate::registers::{is_raised, promote, raise};
+use crate::settle::ascends;
 use hll_registers::estimate_state::EstimateState;
 use hll_registers::registers::two_to;
 use hll_sketch::stage::stage;
@@ -36,6 +39,18 @@ impl Header {
         }
     }
 
+    /// Returns whether the sketch can be read from the elements as they are: there are registers, or the coupons ascend, none is
+    /// repeated and a table holds them. It takes one pass over the coupons.
+    pub fn is_resolved(&self, body: &[[u8; 4]]) -> bool
+        requires { IsWithin self.now (length body.now) }
+        ensures { IsTrue result ↔ IsResolved self.now body.now }
+    {
+        match self.held {
+            Held::Coupons(coupons) => coupons.are_resolved(body, self.lg_k),
+            Held::Registers(_) => true,
+        }
+    }
+
     /// Returns whether there are registers of which the coupon's is at least the coupon's value.
     #[inline(always)]
     pub(crate) fn has_raised(&self, body: &[[u8; 4]], raw: u32) -> bool
@@ -46,6 +61,21 @@ impl Header {
             Held::Coupons(_) => false,
             Held::Registers(_) => is_raised(body, self.lg_k, raw),
         }
+    }
+
+    /// Adds a raw coupon if there are registers with the cleared estimate state, since then the header stays as it is. Returns
+    /// whether there are.
+    #[inline(always)]
+    pub(crate) fn push_in_place(&self, body: &mut [[u8; 4]], raw: u32) -> bool
+        requires { IsWithin self.now (length body.old) }
+        ensures added { result ≡ true → sketch_in self.now body.new ≡ add_in_turn (sketch_in self.now body.old) (raw ∷ []) }
+        ensures none { result ≡ false → body.new ≡ body.old }
+    {
+        if !self.has_cleared_registers() {
+            return false;
+        }
+        raise(&mut body[..two_to(self.lg_k - 2)], self.lg_k, raw);
+        true
     }
 
     /// Adds a raw coupon, as to a sketch. There is room for it. If its register is high enough, nothing is written.
@@ -104,6 +134,26 @@ impl Header {
 }
 
 impl CouponTable {
+    /// Returns whether the coupons ascend, none is repeated and a table holds them.
+    fn are_resolved(&self, body: &[[u8; 4]], lg_k: u8) -> bool
+        requires lg_k { IsLgK lg_k }
+        requires within { AreWithin lg_k self.now (length body.now) }
+        ensures { IsTrue result ↔ AreResolved lg_k self.now body.now }
+    {
+        if self.run.run < self.run.used || !self.has_table(lg_k) {
+            return false;
+        }
+        ascends(&body[..self.run.used])
+    }
+
+    /// Returns whether the coupons, if they are distinct, don't become registers.
+    fn has_table(&self, lg_k: u8) -> bool
+        requires { IsLgK lg_k }
+        ensures { IsTrue result ↔ (self.now.added ≡ true → stages.stage lg_k self.now.lg_size self.now.run.used ≢ None) }
+    {
+        !self.added || stage(lg_k, self.lg_size, self.run.used).is_some()
+    }
+
     /// Returns the coupons, ascending and without repeats; or registers, if coupons were added and are too many for a table.
     #[inline(never)]
     fn resolved(mut self, body: &mut [[u8; 4]], lg_k: u8) -> Held
@@ -137,6 +187,25 @@ impl CouponTable {
     {
         self.added = true;
         self.run.push(body, raw);
+        self
+    }
+
+    /// Returns the coupons with others, which are few enough for the elements that may be in use.
+    pub(crate) fn with_all(
+        mut self,
+        body: &mut [[u8; 4]],
+        lg_k: u8,
+        others: &[[u8; 4]],
+    ) -> CouponTable
+        requires lg_k { IsLgK lg_k }
+        requires within { AreWithin lg_k self (length body.old) }
+        requires room { HasRoomFor lg_k (spec.of_coupons self) (length others.now) (length body.old) }
+        requires few { self.run.used + length others.now ≤ most_used lg_k }
+        ensures within { AreWithin lg_k result (length body.old) }
+        ensures added { content_of lg_k (spec.of_coupons result) body.new ≡ content_with lg_k (content_of lg_k (spec.of_coupons self) body.old) (set_of (raws others.now)) }
+    {
+        self.added = true;
+        self.run.extend(body, others);
         self
     }
 }

@@ -1,11 +1,12 @@
 // SPDX-License-Identifier: Apache-2.0
 //! What the first elements of a state say, and whether the elements after them are enough for it.
-ghost use Rattle.std.specs.Prelude.{◌≡◌, ◌↔◌, ◌+◌, ◌%◌, ◌/◌, ℕ, ◌^◌, ◌<◌, ◌≤◌, ◌++◌, if◌then◌else◌, Some, IsTrue, length, drop};
-ghost use Rattle.hll_registers.specs.State.{IsState};
+ghost use Rattle.std.specs.Prelude.{◌≡◌, ◌↔◌, ◌+◌, ◌%◌, ◌/◌, ℕ, ◌^◌, ◌<◌, ◌≤◌, ◌++◌, if◌then◌else◌, Some, IsTrue, true, length, drop};
+ghost use Rattle.hll_registers.specs.State.{IsState, cleared_state};
 ghost use Rattle.hll_sketch.specs.Layout.{IsSize};
 ghost use Rattle.hll_sketch.specs.Value.{IsLgK};
 ghost use Rattle.hll_state.specs.CouponRun.{raws};
 ghost use Rattle.hll_state.specs.Header as spec;
+ghost use Rattle.hll_state.specs.Prefixes.{needed};
 ghost use Rattle.hll_state.specs.Header.{header_of, held_in_header, coupons_in_header, state_in_header, wide, AreWithin, IsHeldWithin, IsWithin, HasRoomFor, HasRoom};
 
 use crate::elements::{get, set};
@@ -18,10 +19,11 @@ use hll_sketch::stage::can_hold;
 /// The number of elements of a header.
 pub const HEADER_LEN: usize = 10;
 
-/// The first number of a state that holds coupons.
-const COUPONS: u32 = 0x4c48_4c41;
+/// The first number of a state that holds coupons. The highest byte, 2, is the version of states: another version has other first
+/// numbers, and its bytes are not a state.
+const COUPONS: u32 = 0x0248_4c41;
 /// The first number of a state that holds registers.
-const REGISTERS: u32 = 0x4c48_4c42;
+const REGISTERS: u32 = 0x0248_4c42;
 
 /// What a state says before its coupons or registers.
 // More methods are in the modules as_image, counter, join, memory, merge_coupons, merge_image, merge_registers and merge_table.
@@ -165,6 +167,28 @@ impl Header {
         match self.held {
             Held::Coupons(_) => false,
             Held::Registers(_) => true,
+        }
+    }
+
+    /// Returns whether the state holds registers with the cleared estimate state, which stays whatever is added.
+    #[inline(always)]
+    pub(crate) fn has_cleared_registers(&self) -> bool
+        ensures { result ≡ true → self.now.held ≡ spec.of_registers cleared_state }
+    {
+        match self.held {
+            Held::Coupons(_) => false,
+            Held::Registers(state) => state == EstimateState::CLEARED,
+        }
+    }
+
+    /// Returns the number of elements after the header that the state takes.
+    pub fn needed(&self) -> usize
+        requires { IsLgK self.now.lg_k }
+        ensures { result ≡ needed self.now.lg_k self.now.held }
+    {
+        match self.held {
+            Held::Coupons(coupons) => elements_for(self.lg_k, coupons.run.used),
+            Held::Registers(_) => two_to(self.lg_k - 2),
         }
     }
 

@@ -4,11 +4,14 @@ ghost use Rattle.std.specs.Prelude.{◌≡◌, ℕ, ◌+◌, ◌-◌, ◌≤◌,
 ghost use Rattle.hll_sketch.specs.Laws.{add_in_turn};
 ghost use Rattle.hll_sketch.specs.Value.{IsLgK};
 ghost use Rattle.hll_state.specs.Counter.{sketch_in, IsResolved};
-ghost use Rattle.hll_state.specs.Header as spec;
-ghost use Rattle.hll_state.specs.Header.{IsWithin, HasRoom, HasShortTail};
+ghost use Rattle.hll_state.specs.CouponRun.{raws};
+ghost use Rattle.hll_state.specs.Header as headers;
+ghost use Rattle.hll_state.specs.Header.{header_of, IsWithin, HasRoom, HasShortTail};
+ghost use Rattle.hll_state.specs.Memory as spec;
 ghost use Rattle.hll_state.specs.declared.header.Header.{Header};
-ghost use Rattle.hll_state.specs.Memory.{HasHeader, IsState, OfState, IsOnlyRead, IsBegun};
+ghost use Rattle.hll_state.specs.Memory.{HasHeader, IsState, IsStateOf, OfState, KeepsWidths, IsOnlyRead, IsSettled, IsBegun};
 
+use crate::elements::get;
 use crate::header::{HEADER_LEN, Header, Held, elements_for};
 use hll_registers::registers::two_to;
 
@@ -32,24 +35,77 @@ pub fn open(elements: &[[u8; 4]]) -> Option<Header>
     }
 }
 
-/// Writes the header of a state. The elements after it are enough for what the header says.
+/// Writes the header of a state. The elements after it are enough for what the header says. An `lg_k` that is open stays open.
+#[inline(always)]
 pub fn close(elements: &mut [[u8; 4]], header: Header)
     requires there { 10 ≤ length elements.old }
     requires within { IsWithin header (length elements.old - 10) }
     ensures header { HasHeader elements.new header }
+    ensures lg_k_open { spec.is_open elements.new ≡ spec.is_open elements.old }
     ensures rest { drop 10 elements.new ≡ drop 10 elements.old }
 {
+    let is_open = is_open(elements);
     header.write(elements);
+    set_open(elements, is_open);
 }
 
-/// Returns whether the elements are a state with registers of which the coupon's is at least the coupon's value: then adding the
-/// coupon changes nothing.
+/// Writes the header of a state as `close` does, unless it is the one that was read.
+pub fn close_if_changed(elements: &mut [[u8; 4]], before: Header, header: Header)
+    requires read { HasHeader elements.old before }
+    requires within { IsWithin header (length elements.old - 10) }
+    ensures header { HasHeader elements.new header }
+    ensures lg_k_open { spec.is_open elements.new ≡ spec.is_open elements.old }
+    ensures rest { drop 10 elements.new ≡ drop 10 elements.old }
+{
+    if header != before {
+        close(elements, header);
+    }
+}
+
+/// Returns whether the `lg_k` of a state is open: until a sketch that isn't empty is merged, no coupon can be added.
+#[inline(always)]
+pub fn is_open(elements: &[[u8; 4]]) -> bool
+    ensures { result ≡ spec.is_open elements.now }
+{
+    elements.len() > 1 && get(elements, 1) / 32 % 2 == 1
+}
+
+/// Says whether the `lg_k` of a state is open. Nothing else of the state changes.
+#[inline(always)]
+pub fn set_open(elements: &mut [[u8; 4]], is_open: bool)
+    requires there { 10 ≤ length elements.old }
+    ensures lg_k_open { spec.is_open elements.new ≡ is_open }
+    ensures header { header_of (raws elements.new) ≡ header_of (raws elements.old) }
+    ensures rest { drop 10 elements.new ≡ drop 10 elements.old }
+{
+    let lg_k = get(elements, 1) % 32;
+    let number = if is_open { lg_k + 32 } else { lg_k };
+    elements[1] = number.to_le_bytes();
+}
+
+/// Returns whether the elements are a state with registers of which the coupon's is at least the coupon's value, and whose `lg_k`
+/// is not open: then adding the coupon changes nothing.
 #[inline(always)]
 pub fn has_raised(elements: &[[u8; 4]], raw: u32) -> bool
-    ensures { result ≡ true → OfState elements.now (λ x. add_in_turn x (raw ∷ []) ≡ x) }
+    ensures held { result ≡ true → OfState elements.now (λ x. add_in_turn x (raw ∷ []) ≡ x) }
+    ensures decided { result ≡ true → spec.is_open elements.now ≡ false }
 {
     match open(elements) {
-        Some(header) => header.has_raised(&elements[HEADER_LEN..], raw),
+        Some(header) => !is_open(elements) && header.has_raised(&elements[HEADER_LEN..], raw),
+        None => false,
+    }
+}
+
+/// Adds a raw coupon to a state if its header stays as it is: if it has registers with the cleared estimate state. Returns whether
+/// it has; if not, nothing changed.
+pub fn add_in_place(elements: &mut [[u8; 4]], raw: u32) -> bool
+    ensures added { result ≡ true → OfState elements.old (λ x. IsStateOf elements.new (add_in_turn x (raw ∷ []))) }
+    ensures widths { KeepsWidths elements.old elements.new }
+    ensures lg_k_open { spec.is_open elements.new ≡ spec.is_open elements.old }
+    ensures none { result ≡ false → elements.new ≡ elements.old }
+{
+    match open(elements) {
+        Some(header) => header.push_in_place(&mut elements[HEADER_LEN..], raw),
         None => false,
     }
 }
@@ -82,17 +138,18 @@ pub fn begin(elements: &mut [[u8; 4]], count: usize) -> Begun
 }
 
 /// Makes the sketch of a state ready to be read (see `Header::resolve`), and returns its header. Returns `None` if the elements
-/// are not a state. The bytes may change if the state holds coupons, but not the sketch.
+/// are not a state. The bytes may change if the state is not ready, but not the sketch.
 pub fn resolve(elements: &mut [[u8; 4]]) -> Option<Header>
     ensures within { IfSome result (λ h. IsWithin h (length elements.old - 10)) }
     ensures resolved { IfSome result (λ h. IsResolved h (drop 10 elements.new)) }
+    ensures settled { IfSome result (λ h. IsSettled elements.new) }
     ensures some { IfSome result (λ h. OfState elements.old (λ x. x ≡ sketch_in h (drop 10 elements.new))) }
     ensures widths { IfSome result (λ h. (g : Header) → HasHeader elements.old g → h.widths ≡ g.widths) }
     ensures none { IfNone result (IsState elements.old → ⊥) }
     ensures read { IsOnlyRead elements.old elements.new }
 {
     let mut header = open(elements)?;
-    if header.has_registers() {
+    if header.is_resolved(&elements[HEADER_LEN..]) {
         return Some(header);
     }
     header.resolve(&mut elements[HEADER_LEN..]);
@@ -139,10 +196,10 @@ impl Header {
     /// many again and eight; or as much room as any state of this `lg_k` needs.
     pub fn len_for(&self, count: usize) -> usize
         requires lg_k { IsLgK self.now.lg_k }
-        ensures asked { result ≡ spec.len_asked self.now.lg_k self.now.held count }
+        ensures asked { result ≡ headers.len_asked self.now.lg_k self.now.held count }
         ensures room { HasRoom self.now count (result - 10) }
         ensures least { 10 ≤ result }
-        ensures most { result ≤ 10 + spec.most_elements self.now.lg_k }
+        ensures most { result ≤ 10 + headers.most_elements self.now.lg_k }
     {
         match self.held {
             Held::Coupons(coupons) => {
@@ -156,9 +213,9 @@ impl Header {
 /// Returns a number of elements that is enough for `count` coupons, and for half as many again and eight.
 fn grown_len(lg_k: u8, count: usize) -> usize
     requires { IsLgK lg_k }
-    ensures asked { result ≡ spec.elements_for lg_k (spec.half_more count) }
-    ensures enough { spec.elements_for lg_k count ≤ result }
-    ensures most { result ≤ spec.most_elements lg_k }
+    ensures asked { result ≡ headers.elements_for lg_k (headers.half_more count) }
+    ensures enough { headers.elements_for lg_k count ≤ result }
+    ensures most { result ≤ headers.most_elements lg_k }
 {
     let grown = count.saturating_add(count / 2 + 8);
     elements_for(lg_k, grown)

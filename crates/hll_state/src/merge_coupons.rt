@@ -12,7 +12,7 @@ ghost use Rattle.hll_state.specs.Header.{IsWithin, HasRoom, HasShortTail};
 ghost use Rattle.hll_state.specs.Merged.{table_of, HasSomeRegister, is_unused};
 
 use crate::elements::copy_to;
-use crate::header::{CouponTable, Header, Held, elements_for};
+use crate::header::{CouponTable, Header, Held, elements_for, most_used};
 use crate::registers::raise_all;
 use crate::run::CouponRun;
 use hll_registers::estimate_state::EstimateState;
@@ -54,7 +54,7 @@ impl Header {
     }
 
     /// Returns whether no element is in use. Then the sketch of the state is empty, unless it has registers that are all 0.
-    pub(crate) fn is_empty(&self) -> bool
+    pub fn is_empty(&self) -> bool
         ensures is { result ≡ is_unused self.now.held }
         ensures empty { (body : List (List ℕ)) → IsWithin self.now (length body) → HasSomeRegister (sketch_in self.now body) → result ≡ is_empty (sketch_in self.now body) }
         ensures room { result ≡ true → (n room : ℕ) → HasRoom self.now n room → spec.elements_for self.now.lg_k n ≤ room }
@@ -93,16 +93,6 @@ impl Header {
         true
     }
 
-    /// Returns whether the state holds registers with the cleared estimate state, which stays whatever is added.
-    fn has_cleared_registers(&self) -> bool
-        ensures { result ≡ true → self.now.held ≡ spec.of_registers cleared_state }
-    {
-        match self.held {
-            Held::Coupons(_) => false,
-            Held::Registers(state) => state == EstimateState::CLEARED,
-        }
-    }
-
     /// Adds coupons in turn, at least one. There is room for them.
     fn push_all(&mut self, body: &mut [[u8; 4]], coupons: &[[u8; 4]])
         requires within { IsWithin self.old (length body.old) }
@@ -114,6 +104,12 @@ impl Header {
     {
         if self.has_cleared_registers() {
             raise_all(&mut body[..two_to(self.lg_k - 2)], self.lg_k, coupons);
+            return;
+        }
+        if let Held::Coupons(table) = self.held
+            && coupons.len() <= most_used(self.lg_k) - table.run.used
+        {
+            self.held = Held::Coupons(table.with_all(body, self.lg_k, coupons));
             return;
         }
         for coupon in coupons {

@@ -7,7 +7,7 @@ ghost use Rattle.hll_coupons.specs.Coupons.{coupon_bytes, raw_coupons, IsAscendi
 ghost use Rattle.hll_coupons.specs.Pair.{set_of};
 ghost use Rattle.hll_state.specs.CouponRun.{IsRun, members, raws};
 
-use crate::elements::set;
+use crate::elements::{copy_to, set};
 use crate::merge::merge;
 use crate::settle::settle;
 
@@ -55,6 +55,23 @@ impl CouponRun {
         }
         set(coupons, self.used, raw);
         self.used += 1;
+    }
+
+    /// Adds others, in any order. At least as many elements are free.
+    ///
+    /// It writes their elements. Before that it settles the run, where `push` does.
+    pub fn extend(&mut self, coupons: &mut [[u8; 4]], others: &[[u8; 4]])
+        requires run { IsRun self.old coupons.old }
+        requires room { self.old.used + length others.now ≤ length coupons.old }
+        ensures run { IsRun self.new coupons.new }
+        ensures added { members self.new coupons.new ≡ union (members self.old coupons.old) (set_of (raws others.now)) }
+        ensures used { self.new.used ≤ self.old.used + length others.now }
+    {
+        if self.used - self.run >= self.run.max(LEAST_TAIL) {
+            self.settle(coupons);
+        }
+        copy_to(coupons, self.used, others);
+        self.used += others.len();
     }
 
     /// Sorts the tail into the run, and keeps each coupon once. If the run does not ascend, sorts all coupons.

@@ -29,7 +29,7 @@ pub(crate) fn settle(coupons: &mut [[u8; 4]], run: usize, used: usize) -> usize
 }
 
 /// Returns whether each coupon is less than the next one. It takes one pass over all coupons, which the compiler can vectorise.
-fn ascends(coupons: &[[u8; 4]]) -> bool
+pub(crate) fn ascends(coupons: &[[u8; 4]]) -> bool
     ensures { IsTrue result ↔ IsStrictlyIncreasing (raws coupons.now) }
 {
     let mut ascends = true;

@@ -100,7 +100,7 @@ impl Coupon {
     /// `OutOfMemory`, which values that write at most 40 bytes don't cause.
     #[inline]
     pub fn try_from_value<T: Hash>(value: T) -> Result<Self, Error> {
-        crate::hash::coupon_of(value).map(Self).ok_or_else(|| Error::new(Cause::Memory))
+        crate::hash::with_bytes_of(value, libhll::coupon).map(Self).ok_or_else(|| Error::new(Cause::Memory))
     }
 
     /// Returns the coupon of these bytes alone, as other languages count them.

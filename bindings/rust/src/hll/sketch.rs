@@ -64,7 +64,7 @@ impl HllSketch {
     /// Adds a value as [`update`](Self::update) does, or returns `OutOfMemory`.
     #[inline]
     pub fn try_update<T: Hash>(&mut self, value: T) -> Result<(), Error> {
-        self.try_update_with_coupon(Coupon::try_from_value(value)?)
+        self.state.add_value(value)
     }
 
     /// Adds a value by these bytes alone, as C, C++, Java, Python and SQL count it: the UTF-8 of a text, or the eight
@@ -89,7 +89,7 @@ impl HllSketch {
     /// Adds a value as [`update_bytes`](Self::update_bytes) does, or returns `OutOfMemory`.
     #[inline]
     pub fn try_update_bytes(&mut self, value: impl AsRef<[u8]>) -> Result<(), Error> {
-        self.try_update_with_coupon(Coupon::from_bytes(value))
+        self.state.add_bytes(value.as_ref())
     }
 
     /// Adds a value by its coupon, without hashing it again.

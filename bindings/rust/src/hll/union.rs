@@ -12,8 +12,6 @@ use crate::libhll;
 
 /// The `lg_k` of a union of no images.
 const DEFAULT_LG_K: u8 = 12;
-/// The smallest `lg_k`.
-const MIN_LG_K: u8 = 4;
 
 /// A union: the sketch of all values that any of the merged sketches has.
 ///
@@ -42,7 +40,7 @@ impl HllUnion {
 
     /// Merges a sketch, or returns `OutOfMemory`.
     pub fn try_update(&mut self, sketch: &HllSketch) -> Result<(), Error> {
-        self.state.join_state(self.lg_max_k, &sketch.state)
+        self.state.join_state(&sketch.state)
     }
 
     /// Merges an image from its bytes, without making a sketch of it. The image is checked whole; bytes after it are not read.
@@ -52,7 +50,7 @@ impl HllUnion {
     ///
     /// `InvalidData` with the first check that the bytes fail, or `OutOfMemory`.
     pub fn update_image(&mut self, image: &[u8]) -> Result<(), Error> {
-        self.state.join(self.lg_max_k, image)
+        self.state.join(image)
     }
 
     /// Adds a value as [`HllSketch::update`] does: with the byte ff after a `str`.
@@ -64,19 +62,19 @@ impl HllUnion {
     /// Adds a value as [`HllSketch::update`] does, or returns `OutOfMemory`.
     #[inline]
     pub fn try_update_value<T: Hash>(&mut self, value: T) -> Result<(), Error> {
-        self.try_update_with_coupon(Coupon::try_from_value(value)?)
+        self.state.add_value(value)
     }
 
     /// Adds a value by its bytes, as [`HllSketch::update_bytes`] does.
     #[inline]
     pub fn update_bytes(&mut self, value: impl AsRef<[u8]>) {
-        self.update_with_coupon(Coupon::from_bytes(value));
+        or_abort(self.try_update_bytes(value));
     }
 
     /// Adds a value by its bytes, or returns `OutOfMemory`.
     #[inline]
     pub fn try_update_bytes(&mut self, value: impl AsRef<[u8]>) -> Result<(), Error> {
-        self.try_update_with_coupon(Coupon::from_bytes(value))
+        self.state.add_bytes(value.as_ref())
     }
 
     /// Adds a value by its coupon.
@@ -187,13 +185,16 @@ where
     I: IntoIterator,
     I::Item: AsRef<[u8]>,
 {
-    let mut images = images.into_iter().enumerate().peekable();
-    let least = if images.peek().is_some() { MIN_LG_K } else { DEFAULT_LG_K };
-    let mut state = State::new(least); // the state takes the lg_k of the images
-    for (number, image) in images {
-        state.join(0, image.as_ref()).map_err(|error| error.at(number))?;
+    let (mut state, mut number) = (State::open(), 0);
+    for image in images {
+        state.join(image.as_ref()).map_err(|error| error.at(number))?;
+        number += 1;
     }
-    Ok(HllSketch { hll_type: HllType::of_width(state.width()), state })
+    let hll_type = HllType::of_width(state.width());
+    if state.is_open() {
+        state = State::new(if number > 0 { state.lg_k() } else { DEFAULT_LG_K });
+    }
+    Ok(HllSketch { hll_type, state })
 }
 
 /// Returns the image of the union of images of any `lg_k`, under a bound. This is the fastest way to merge many images.

@@ -8,6 +8,6 @@ use Rattle.hll_c.proofs.hll_image_merge.Goals as goal
 pub returns : goal.returns
 returns c =
     let images = c.args.left.now ∷ c.args.right.now ∷ [] in
-    answers_with (λ v. v.items) c.merged.result (WithFields (IsUnionOf c.args.lg_max_k c.args.width images c.args.failed.now c.merged.new.failed))
-    (RefusesImages (AreUnionArguments c.args.lg_max_k c.args.width) images c.args.failed.now c.merged.new.failed)
-    c.args.out.now c.put_bytes.new.out c.args.size.now c.put_bytes.new.size c.put_bytes.result c.merged.ensures.ok c.merged.ensures.err c.put_bytes.ensures
+    answers_with (λ v. v.items) c.union_of_two.result (WithFields (IsUnionOf c.args.lg_max_k c.args.width images c.args.failed.now c.union_of_two.new.failed))
+    (RefusesImages (AreUnionArguments c.args.lg_max_k c.args.width) images c.args.failed.now c.union_of_two.new.failed)
+    c.args.out.now c.put_bytes.new.out c.args.size.now c.put_bytes.new.size c.put_bytes.result c.union_of_two.ensures.ok c.union_of_two.ensures.err c.put_bytes.ensures

@@ -12,6 +12,6 @@ returns-clause-left c =
     (λ y. read_is_legal c.args.image.now y (All-from_get_or (λ n. n < 256) c.args.image.now 0 (λ i within. omega (arith, c.type_inv.image i)))) c.join_image.ensures
 
 pub returns-clause-union : goal.returns-clause-union
-returns-clause-union c = λ done.
+returns-clause-union c = λ done closed.
     extends_by_image c.args.lg_max_k c.args.image.now c.args.state.now c.join_image.new.state c.args.size.now c.join_image.new.size c.join_image.result
-    (λ y. read_is_legal c.args.image.now y (All-from_get_or (λ n. n < 256) c.args.image.now 0 (λ i within. omega (arith, c.type_inv.image i)))) c.join_image.ensures done
+    (λ y. read_is_legal c.args.image.now y (All-from_get_or (λ n. n < 256) c.args.image.now 0 (λ i within. omega (arith, c.type_inv.image i)))) c.join_image.ensures done closed

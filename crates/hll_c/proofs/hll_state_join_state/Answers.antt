@@ -8,5 +8,5 @@ returns-clause-left c = λ other.
     leaves_state c.args.lg_max_k c.args.other.now c.args.state.now c.join_state.new.state c.args.size.now c.join_state.new.size c.join_state.result other c.join_state.ensures.joined
 
 pub returns-clause-union : goal.returns-clause-union
-returns-clause-union c = λ done.
-    extends_by_state c.args.lg_max_k c.args.other.now c.args.state.now c.join_state.new.state c.args.size.now c.join_state.new.size c.join_state.result c.join_state.ensures.joined done
+returns-clause-union c = λ done closed.
+    extends_by_state c.args.lg_max_k c.args.other.now c.args.state.now c.join_state.new.state c.args.size.now c.join_state.new.size c.join_state.result c.join_state.ensures.joined done closed

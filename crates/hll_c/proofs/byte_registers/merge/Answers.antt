@@ -1,7 +1,6 @@
 -- SPDX-License-Identifier: Apache-2.0
-use Rattle.std.proofs.Common.{◌≡◌, refl, sym, ap, subst, ◌∙◌, arith}
+use Rattle.std.proofs.Common.{refl, sym, ap, subst, ◌∙◌}
 use Rattle.hll_base.specs.Reason.{number_of}
-use Rattle.hll_base.specs.declared.error.Reason.TheVariants.{Argument, Memory}
 use Rattle.hll_sketch.specs.ByteRegisters.{TakesMaxWithImage}
 use Rattle.hll_c.specs.Answers.{argument_with_image, image_refused}
 use Rattle.hll_c.specs.ByteRegisters.{MergesImageInto, joined, coarser, refused}

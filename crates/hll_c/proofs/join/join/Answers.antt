@@ -1,38 +1,5 @@
 -- SPDX-License-Identifier: Apache-2.0
-use Rattle.std.proofs.Common.{◌≡◌, ◌-◌, ℕ, List, length, refl, sym, ap, subst, ◌∙◌}
-use borrow.Rule.Slice.PartMut.{put_mid}
-use Rattle.hll_sketch.specs.BorrowedImage.{sketch_of_borrowed}
-use Rattle.hll_sketch.specs.Value.{Sketch}
-use Rattle.hll_state.specs.Memory.{HasHeader}
-use Rattle.hll_state.specs.declared.header.Header.{Header}
-use Rattle.hll_state.specs.declared.join.Joined.TheVariants.{Done, NoRoom, OtherLgK}
-use Rattle.hll_state.proofs.States.{merge_fits, rest_same}
-use Rattle.hll_c.proofs.States.{joined_within}
-use Rattle.hll_c.specs.States.{JoinsSketch, joined, no_room_to_join, other_lg_k}
 use Rattle.hll_c.proofs.join.join.Goals as goal
 
-pub too_small-requires : goal.too_small-requires
-too_small-requires c = merge_fits _ _ c.in-NoRoom.len c.in-NoRoom.ensures.joined.enough
-
-pub returns-in-Done : goal.returns-in-Done
-returns-in-Done c =
-    joined (joined_within c.args.lg_max_k c.args.widths (sketch_of_borrowed c.args.image.now) c.args.state.now c.close.new.elements c.join.new.body c.args.header c.join.new.self Done
-    c.requires.has c.requires.bound c.close.ensures.header c.close.ensures.rest c.in-Done.ensures.joined) refl
-
-pub returns-in-NoRoom : goal.returns-in-NoRoom
-returns-in-NoRoom c =
-    let y : Sketch = sketch_of_borrowed c.args.image.now in
-    let len : ℕ = c.in-NoRoom.len in
-    subst (JoinsSketch c.args.lg_max_k c.args.widths y c.args.state.now c.close-in-NoRoom.new.elements c.args.size.now c.too_small.new.size) (sym c.too_small.ensures.code)
-    (no_room_to_join len (joined_within c.args.lg_max_k c.args.widths y c.args.state.now c.close-in-NoRoom.new.elements c.join.new.body c.args.header c.join.new.self (NoRoom len)
-    c.requires.has c.requires.bound c.close-in-NoRoom.ensures.header c.close-in-NoRoom.ensures.rest c.in-NoRoom.ensures.joined) c.too_small.ensures.size)
-
-pub returns-in-OtherLgK : goal.returns-in-OtherLgK
-returns-in-OtherLgK c =
-    let s : List (List ℕ) = c.args.state.now in
-    let y : Sketch = sketch_of_borrowed c.args.image.now in
-    let final : List (List ℕ) = put_mid 10 (length s - 10) s c.join.new.body in
-    let is = c.in-OtherLgK.ensures.joined in
-    let same : final ≡ s = ap (put_mid 10 (length s - 10) s) is.unchanged ∙ rest_same s in
-    other_lg_k (joined_within c.args.lg_max_k c.args.widths y s final c.join.new.body c.args.header c.join.new.self OtherLgK
-    c.requires.has c.requires.bound (subst (λ (h : Header). HasHeader final h) (sym is.same) (subst (λ xs. HasHeader xs c.args.header) (sym same) c.requires.has)) refl is) same refl
+pub returns : goal.returns
+returns c = record { begun = c.begin_join-begun.new.state; begins = c.begin_join-begun.ensures.begun; joins = c.join_begun.ensures }

@@ -5,7 +5,7 @@ use Rattle.hll_sketch.specs.BorrowedImage.{sketch_of_borrowed}
 use Rattle.hll_sketch.specs.Value.{Sketch}
 use Rattle.hll_state.specs.Merged.{bit_of}
 use Rattle.hll_c.specs.Answers.{argument_with_image, image_refused}
-use Rattle.hll_c.specs.States.{JoinsSketch, JoinsImage, image_read, image_not_read}
+use Rattle.hll_c.specs.States.{BeginsAndJoins, JoinsImage, image_read, image_not_read}
 use Rattle.hll_c.proofs.Images.{refuses_image}
 use Rattle.hll_c.proofs.States.{no_memory}
 use Rattle.hll_c.proofs.join.join_image.Goals as goal
@@ -19,7 +19,7 @@ pub returns-in-Ok : goal.returns-in-Ok
 returns-in-Ok c =
     let y : Sketch = sketch_of_borrowed c.in-Ok.image in
     image_read y c.in-Ok.ensures.ok
-    (subst (λ widths. JoinsSketch c.args.lg_max_k widths y c.args.state.now c.join.new.state c.args.size.now c.join.new.size c.join.result) (c.bit_of-widths.ensures.is ∙ ap bit_of c.hll_type.ensures) c.join.ensures)
+    (subst (λ widths. BeginsAndJoins c.args.lg_max_k widths y c.args.state.now c.join.new.state c.args.size.now c.join.new.size c.join.result) (c.bit_of-widths.ensures.is ∙ ap bit_of c.hll_type.ensures) c.join.ensures)
 
 pub returns-in-Err : goal.returns-in-Err
 returns-in-Err c =

@@ -1,18 +1,24 @@
 -- SPDX-License-Identifier: Apache-2.0
-use Rattle.std.proofs.Common.{length, refl, sym, subst, arith}
+use Rattle.std.proofs.lemmas.Bool.{true≢false}
+use Rattle.std.proofs.Common.{ap, ◌∙◌, length, refl, sym, subst, arith}
 use Rattle.hll_sketch.specs.Laws.{add_in_turn}
 use Rattle.hll_state.specs.Header.{IsWithin}
-use Rattle.hll_state.specs.Memory.{KeepsWidths}
-use Rattle.hll_state.proofs.States.{ready_within, ready_room, written_size, written_within, closed, closed_widths, enough_fits, keeps_own}
+use Rattle.hll_state.specs.Memory.{is_open, KeepsWidths}
+use Rattle.hll_state.proofs.States.{open_written, ready_within, ready_room, written_size, written_within, closed, closed_widths, enough_fits, keeps_own}
 use Rattle.hll_c.specs.ByteRegisters.{HaveValues}
-use Rattle.hll_c.specs.States.{AddsToState, added, no_room, not_added}
+use Rattle.hll_c.specs.States.{TakesValues, AddsToState, added, no_room, not_added}
 use Rattle.hll_c.proofs.Batches.{not_so}
 use Rattle.hll_c.proofs.state.add_coupons.Goals as goal
 
+pub returns-then-is_open-clause-added : goal.returns-then-is_open-clause-added
+returns-then-is_open-clause-added c =
+    subst (AddsToState (HaveValues c.args.coupons.now × TakesValues c.args.state.now) c.args.coupons.now c.args.state.now c.args.state.now c.args.size.now c.args.size.now) (sym c.number.ensures)
+    (not_added (λ are. true≢false (sym c.if-is_open.true ∙ c.is_open.ensures ∙ are.0.1)) refl refl)
+
 pub returns-then-not-have_values-clause-added : goal.returns-then-not-have_values-clause-added
 returns-then-not-have_values-clause-added c =
-    subst (AddsToState (HaveValues c.args.coupons.now) c.args.coupons.now c.args.state.now c.args.state.now c.args.size.now c.args.size.now) (sym c.number.ensures)
-    (not_added (λ are. not_so c.have_values.result (HaveValues c.args.coupons.now) c.if-not-have_values.true c.have_values.ensures are.0) refl refl)
+    subst (AddsToState (HaveValues c.args.coupons.now × TakesValues c.args.state.now) c.args.coupons.now c.args.state.now c.args.state.now c.args.size.now c.args.size.now) (sym c.number-then-not-have_values.ensures)
+    (not_added (λ are. not_so c.have_values.result (HaveValues c.args.coupons.now) c.if-not-have_values.true c.have_values.ensures are.0.0) refl refl)
 
 pub too_small-requires : goal.too_small-requires
 too_small-requires c = enough_fits c.begin.new.elements (length c.args.coupons.now) c.in-NoRoom.len c.in-NoRoom.ensures.enough
@@ -35,18 +41,18 @@ close-requires-clause-within c =
 
 pub returns-in-NoState-clause-added : goal.returns-in-NoState-clause-added
 returns-in-NoState-clause-added c =
-    subst (AddsToState (HaveValues c.args.coupons.now) c.args.coupons.now c.args.state.now c.begin.new.elements c.args.size.now c.args.size.now) (sym c.number-in-NoState.ensures)
+    subst (AddsToState (HaveValues c.args.coupons.now × TakesValues c.args.state.now) c.args.coupons.now c.args.state.now c.begin.new.elements c.args.size.now c.args.size.now) (sym c.number-in-NoState.ensures)
     (not_added (λ are. c.in-NoState.ensures.none are.1) c.in-NoState.ensures.same refl)
 
 pub returns-in-NoRoom-clause-added : goal.returns-in-NoRoom-clause-added
 returns-in-NoRoom-clause-added c =
-    subst (AddsToState (HaveValues c.args.coupons.now) c.args.coupons.now c.args.state.now c.begin.new.elements c.args.size.now c.too_small.new.size) (sym c.too_small.ensures.code)
-    (no_room (c.have_values.ensures.0 c.if-not-have_values.false) c.in-NoRoom.ensures.kept c.in-NoRoom.ensures.lacks
+    subst (AddsToState (HaveValues c.args.coupons.now × TakesValues c.args.state.now) c.args.coupons.now c.args.state.now c.begin.new.elements c.args.size.now c.too_small.new.size) (sym c.too_small.ensures.code)
+    (no_room (c.have_values.ensures.0 c.if-not-have_values.false, sym c.is_open.ensures ∙ c.if-is_open.false) c.in-NoRoom.ensures.kept c.in-NoRoom.ensures.lacks
     (record { len = c.in-NoRoom.len; bytes_are = c.too_small.ensures.size; enough = c.in-NoRoom.ensures.enough }))
 
 pub returns-in-Room-clause-added : goal.returns-in-Room-clause-added
 returns-in-Room-clause-added c =
-    added (c.have_values.ensures.0 c.if-not-have_values.false)
+    added (c.have_values.ensures.0 c.if-not-have_values.false, sym c.is_open.ensures ∙ c.if-is_open.false)
     (closed (length c.args.coupons.now) c.args.state.now c.begin.new.elements c.in-Room.header c.in-Room.ensures c.begin.auto.elements (λ x. add_in_turn x c.args.coupons.now)
     c.push_coupons.new.header c.push_coupons.new.body c.close.new.elements c.push_coupons.ensures.added c.close.ensures.header c.close.ensures.rest)
     refl
@@ -63,3 +69,16 @@ returns-in-NoRoom-clause-widths c = c.in-NoRoom.ensures.widths
 pub returns-in-Room-clause-widths : goal.returns-in-Room-clause-widths
 returns-in-Room-clause-widths c =
     closed_widths (length c.args.coupons.now) c.args.state.now c.begin.new.elements c.in-Room.header c.in-Room.ensures c.begin.auto.elements c.push_coupons.new.header c.close.new.elements c.close.ensures.header c.push_coupons.ensures.widths
+
+pub returns-then-is_open-clause-widths : goal.returns-then-is_open-clause-widths
+returns-then-is_open-clause-widths c = keeps_own c.args.state.now
+
+pub returns-in-NoState-clause-lg_k_open : goal.returns-in-NoState-clause-lg_k_open
+returns-in-NoState-clause-lg_k_open c = ap is_open c.in-NoState.ensures.same
+
+pub returns-in-NoRoom-clause-lg_k_open : goal.returns-in-NoRoom-clause-lg_k_open
+returns-in-NoRoom-clause-lg_k_open c = c.in-NoRoom.ensures.lg_k_open
+
+pub returns-in-Room-clause-lg_k_open : goal.returns-in-Room-clause-lg_k_open
+returns-in-Room-clause-lg_k_open c =
+    c.close.ensures.lg_k_open ∙ open_written c.begin.new.elements c.push_coupons.new.body (omega (arith, c.begin.auto.elements, c.in-Room.ensures.there)) ∙ c.in-Room.ensures.lg_k_open

@@ -3,9 +3,11 @@ use Rattle.std.proofs.Common.{◌-◌, ℕ, List, length, sym, subst}
 use Rattle.std.proofs.lemmas.Result.{IfOk-weaker, IfErr-weaker}
 use borrow.Rule.Slice.PartMut.{mid_of}
 use Rattle.hll_state.specs.Counter.{sketch_in}
+use Rattle.hll_state.specs.Memory.{IsSettled}
 use Rattle.hll_state.proofs.States.{read_at}
 use Rattle.hll_c.specs.Estimates.{IsEstimateOfContent}
 use Rattle.hll_c.specs.States.{SaysEstimateOfState, RefusesState}
+use Rattle.hll_c.proofs.Codes.{IfOk-always}
 use Rattle.hll_c.proofs.States.{refuses_no_state, refuses_register}
 use Rattle.hll_c.proofs.state.estimate_of.Goals as goal
 
@@ -26,3 +28,6 @@ returns-clause-err c =
     IfErr-weaker c.estimate_of_held.result _ (RefusesState (Unit {0}) c.args.state.now)
     (λ e why. refuses_register (Unit {0}) c.args.state.now e (sketch_in h (mid_of 10 (length n - 10) n)) tt why.0 (read_at c.args.state.now n h c.in-Some.ensures.some) why.1)
     c.estimate_of_held.ensures.err
+
+pub returns-clause-settled : goal.returns-clause-settled
+returns-clause-settled c = IfOk-always c.estimate_of_held.result (IsSettled c.resolve.new.elements) c.in-Some.ensures.settled

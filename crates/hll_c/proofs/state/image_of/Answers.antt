@@ -5,11 +5,13 @@ use borrow.Rule.Slice.PartMut.{mid_of}
 use Rattle.hll_base.proofs.Errors.{IfErr-passed}
 use Rattle.hll_sketch.specs.Value.{Sketch}
 use Rattle.hll_state.specs.Counter.{sketch_in}
+use Rattle.hll_state.specs.Memory.{IsSettled}
 use Rattle.hll_state.proofs.States.{read_at, read_own}
 use Rattle.hll_c.specs.Answers.{IsImageOf, WithFields}
 use Rattle.hll_c.specs.Calls.{IsWidth}
 use Rattle.hll_c.specs.States.{IsOfState, RefusesState}
 use Rattle.hll_c.proofs.Answers.{made_with_fields}
+use Rattle.hll_c.proofs.Codes.{IfOk-always}
 use Rattle.hll_c.proofs.States.{refuses_no_state, refuses_register, refuses_state_memory}
 use Rattle.hll_c.proofs.state.image_of.Goals as goal
 
@@ -53,3 +55,6 @@ returns-clause-err c =
       | inr register ↦ refuses_register (IsWidth c.args.width) c.args.state.now e x width register.0 of register.1
     ])
     c.image_of_held.ensures.err
+
+pub returns-clause-settled : goal.returns-clause-settled
+returns-clause-settled c = IfOk-always c.image_of_held.result (IsSettled c.resolve.new.elements) c.in-Some.ensures.settled

@@ -6,7 +6,7 @@ use Rattle.hll_state.specs.Counter.{sketch_in}
 use Rattle.hll_state.specs.Header.{IsWithin, HasRoom}
 use Rattle.hll_state.specs.Memory.{HasHeader}
 use Rattle.hll_state.specs.declared.header.Header.{Header}
-use Rattle.hll_state.proofs.States.{opened, rest_borrowed, rest_written, means, kept, same_widths, keeps}
+use Rattle.hll_state.proofs.States.{opened, rest_borrowed, rest_written, means, kept, same_widths, keeps, open_written}
 use Rattle.hll_state.proofs.memory.begin.Goals as goal
 
 pub returns-in_default : goal.returns-in_default
@@ -30,6 +30,7 @@ returns-then-has_room c =
         is = sym (opened e b h g has c.make_room-has_room.ensures.same) ∙ ap (sketch_in g) (sym (rest_written e b has.there));
       };
       widths = λ x had. same_widths e h has x had ∙ sym c.make_room-has_room.ensures.widths;
+      lg_k_open = open_written e b has.there;
     }
 
 pub returns : goal.returns
@@ -45,6 +46,7 @@ returns c =
     record {
       kept = kept e n h g has c.close.ensures.header (ap (sketch_in g) rest ∙ opened e b h g has c.make_room-has_room.ensures.same);
       widths = keeps e n h g has c.close.ensures.header c.make_room-has_room.ensures.widths;
+      lg_k_open = c.close.ensures.lg_k_open ∙ open_written e b has.there;
       lacks = λ can. c.make_room-has_room.ensures.none c.if-has_room.false (subst (HasRoom h c.args.count) (sym size) (can h has));
       enough = record {
         header = g;

@@ -1,5 +1,5 @@
 -- SPDX-License-Identifier: Apache-2.0
-use Rattle.std.proofs.Common.{◌≡◌, ◌*◌, ◌%◌, ◌^◌, ℕ, List, length, ap, ◌∙◌, arith, sym}
+use Rattle.std.proofs.Common.{◌≡◌, ◌*◌, ◌^◌, ℕ, List, length, ap, ◌∙◌, arith}
 use Rattle.hll_registers.proofs.FourBitReading.{small_minimum}
 use Rattle.hll_state.specs.Registers.{values}
 use Rattle.hll_state.proofs.NibbleParts.{parts_agree, length-with_nibbles, whole_blocks, with_entries, without_exceptions}

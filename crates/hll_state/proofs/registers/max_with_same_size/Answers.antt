@@ -1,7 +1,6 @@
 -- SPDX-License-Identifier: Apache-2.0
 use Rattle.std.proofs.Common.{◌≡◌, ◌^◌, ℕ, List, length, sym, ap, subst, ◌∙◌, arith}
 use Rattle.hll_base.specs.Join.{join}
-use Rattle.hll_coupons.specs.Fold.{fold_to, pairs}
 use Rattle.hll_coupons.proofs.Registers.{fold_to-pairs}
 use Rattle.hll_kernels.specs.Packed.{AreRegisters}
 use Rattle.hll_kernels.proofs.Registers.{AreRegisters-join}

@@ -1,9 +1,9 @@
 -- SPDX-License-Identifier: Apache-2.0
-use Rattle.std.proofs.Common.{◌≡◌, ◌*◌, ◌+◌, ◌-◌, ◌<◌, ◌≤◌, ℕ, List, [], ◌∷◌, ◌++◌, length, sym, ap, subst, ◌∙◌, arith, inl, inr}
+use Rattle.std.proofs.Common.{◌≡◌, ◌*◌, ◌+◌, ◌-◌, ℕ, List, [], ◌∷◌, ◌++◌, length, sym, ap, subst, ◌∙◌, arith, inl, inr}
 use Rattle.std.specs.Prelude.{max, slice_index, slice_set, unwrap_or}
 use Rattle.std.proofs.lemmas.Bool.{cases_lt}
 use Rattle.std.proofs.lemmas.List.{append-nil}
-use Rattle.hll_coupons.specs.AuxMap.{entries_in, value_in, ExceptionMap, IsMap}
+use Rattle.hll_coupons.specs.AuxMap.{entries_in, value_in}
 use Rattle.hll_coupons.proofs.Pairs.{IsEntryOf, entries_are}
 use Rattle.hll_coupons.proofs.Putting.{last_of_all}
 use Rattle.hll_coupons.proofs.Yielded.{given}

@@ -2,15 +2,16 @@
 use Rattle.std.proofs.Common.{◌≡◌, ℕ, ◌+◌, ◌-◌, ◌^◌, ◌≤◌, ◌++◌, [], ◌∷◌, List, length, take, drop, get_or, sym, ap, subst, ◌∙◌, arith}
 use Rattle.std.proofs.lemmas.List.{drop_more, length-take-le}
 use Rattle.hll_coupons.specs.Pair.{set_of}
-use Rattle.hll_sketch.specs.Adding.{add}
+use Rattle.hll_base.specs.declared.hll_type.HllType.TheVariants.{Hll8}
+use Rattle.hll_sketch.specs.Adding.{add, content_with}
 use Rattle.hll_sketch.specs.Laws.{add_in_turn}
 use Rattle.hll_sketch.specs.Value.{Sketch}
-use Rattle.hll_state.specs.Counter.{sketch_in}
+use Rattle.hll_state.specs.Counter.{sketch_in, content_of}
 use Rattle.hll_state.specs.CouponRun.{raws}
 use Rattle.hll_registers.specs.State.{cleared_state}
 use Rattle.hll_state.specs.Header.{of_registers, IsHeldWithin, IsWithin, HasRoom}
 use Rattle.hll_state.specs.Registers.{values}
-use Rattle.hll_state.proofs.Raised.{all_raised}
+use Rattle.hll_state.proofs.Raised.{all_raised, all_added}
 use Rattle.hll_base.specs.Join.{join}
 use Rattle.hll_coupons.specs.Fold.{fold_to}
 use Rattle.std.proofs.Math.Seq.{take-append_seam}
@@ -50,3 +51,12 @@ returns-then-has_cleared_registers-clause-added c =
     let raised : values (take (2 ^ (h.lg_k - 2)) (new ++ drop n body)) ≡ join (values (take (2 ^ (h.lg_k - 2)) body)) (fold_to (set_of order) h.lg_k) =
     ap values first ∙ c.raise_all.ensures.joined ∙ ap (λ m. join (values (take m body)) (fold_to (set_of order) h.lg_k)) c.two_to.ensures in
     all_raised h held body (new ++ drop n body) order (omega (arith, c.requires.some, length-raws c.args.coupons.now)) raised
+
+pub returns-clause-added : goal.returns-clause-added
+returns-clause-added c =
+    let h = c.args.self.now in
+    let body : List (List ℕ) = c.args.body.now in
+    let order : List ℕ = raws c.args.coupons.now in
+    ap (λ content. let z : Sketch = record { lg_k = h.lg_k; width = Hll8; content = content } in z)
+    (c.with_all.ensures.added ∙ ap (λ held. content_with h.lg_k (content_of h.lg_k held body) (set_of order)) (sym c.in-Coupons.is))
+    ∙ sym (all_added (sketch_in h body) order (omega (arith, c.requires.some, length-raws c.args.coupons.now)))

@@ -1,0 +1,468 @@
+/* SPDX-License-Identifier: Apache-2.0 */
+/* Counters against a plain model: an image, changed by hll_image_add and hll_image_merge. Each request of the allocator fails
+ * in turn, by NULL or by a jump. Arguments: the number of walks, the first seed. */
+#include "test.h"
+
+#include <setjmp.h>
+
+/* ---- an allocator that fails */
+
+typedef struct heap {
+    long live; /* blocks */
+    long requests;
+    long fails_at; /* this request from now on fails; 0: none */
+    int jumps;
+    jmp_buf back;
+} heap;
+
+static void *resize(void *context, void *memory, size_t size)
+{
+    heap *of = context;
+    void *made;
+    if (size == 0) {
+        of->live -= memory != NULL;
+        free(memory);
+        return NULL;
+    }
+    of->requests++;
+    if (of->fails_at != 0 && --of->fails_at == 0) {
+        if (of->jumps)
+            longjmp(of->back, 1);
+        return NULL;
+    }
+    made = realloc(memory, size);
+    need(made != NULL, "memory");
+    of->live += memory == NULL;
+    return made;
+}
+
+static uint64_t seed;
+
+static uint32_t pick(uint32_t n)
+{
+    seed = seed * UINT64_C(6364136223846793005) + UINT64_C(1442695040888963407);
+    return (uint32_t)((seed >> 33) % n);
+}
+
+/* ---- the model */
+
+#define MOST (HLL_IMAGE_MAX(14))
+
+typedef struct model {
+    unsigned lg_max_k;
+    int is_begun; /* whether its lg_k is decided */
+    uint8_t image[MOST];
+    size_t len;
+} model;
+
+static int is_empty_image(const uint8_t *image, size_t len)
+{
+    hll_info info;
+    need(hll_image_info(image, len, &info, sizeof info) == HLL_OK, "info");
+    return info.is_empty;
+}
+
+static void model_init(model *m, unsigned lg_k)
+{
+    m->lg_max_k = lg_k;
+    m->is_begun = lg_k != 0;
+    need(hll_image_new(lg_k == 0 ? 4 : lg_k, 8, m->image, MOST, &m->len) == HLL_OK, "new");
+}
+
+static hll_status model_add(model *m, const uint8_t *values, size_t values_len, const size_t *ends, size_t n)
+{
+    static uint8_t out[MOST];
+    size_t len;
+    hll_status status;
+    if (!m->is_begun)
+        return HLL_ARGUMENT;
+    status = hll_image_add(m->image, m->len, values, values_len, ends, n, out, MOST, &len);
+    if (status == HLL_OK)
+        memcpy(m->image, out, m->len = len);
+    return status;
+}
+
+static hll_status model_join(model *m, const uint8_t *image, size_t len)
+{
+    static uint8_t out[MOST], empty[8];
+    size_t made, empty_len;
+    unsigned lg_max_k = m->lg_max_k == 0 ? 0 : m->image[3];
+    hll_status status = hll_image_check(image, len);
+    if (status != HLL_OK)
+        return status;
+    if (lg_max_k == 0) {
+        unsigned ours = m->image[3], theirs = image[3];
+        int is_empty = is_empty_image(m->image, m->len);
+        if (is_empty_image(image, len)) {
+            if (is_empty && ours < theirs)
+                need(hll_image_new(theirs, 8, m->image, MOST, &m->len) == HLL_OK, "new");
+            return HLL_OK;
+        }
+        if (!is_empty && ours != theirs)
+            return HLL_OTHER_LG_K;
+        lg_max_k = theirs;
+        if (is_empty) {
+            need(hll_image_new(theirs, 8, empty, sizeof empty, &empty_len) == HLL_OK, "new");
+            memcpy(m->image, empty, m->len = empty_len);
+        }
+    }
+    status = hll_image_merge(lg_max_k, 8, m->image, m->len, image, len, out, MOST, &made, NULL);
+    need(status == HLL_OK, "merge");
+    memcpy(m->image, out, m->len = made);
+    m->is_begun = 1;
+    return status;
+}
+
+/* ---- values and images */
+
+static uint8_t values[8 * 4096];
+static size_t ends[4096];
+
+static void fill(size_t n, uint32_t universe)
+{
+    size_t i;
+    for (i = 0; i < n; i++) {
+        uint64_t value = pick(universe);
+        memcpy(values + 8 * i, &value, 8);
+        ends[i] = 8 * (i + 1);
+    }
+}
+
+static size_t any_size(void)
+{
+    switch (pick(8)) {
+    case 0:
+        return 0;
+    case 1:
+        return pick(400);
+    case 2:
+        return pick(4000);
+    default:
+        return pick(24);
+    }
+}
+
+static size_t any_image(uint8_t *out, unsigned lg_k, unsigned width)
+{
+    static uint8_t empty[8];
+    size_t len, n = any_size();
+    need(hll_image_new(lg_k, width, empty, sizeof empty, &len) == HLL_OK, "new");
+    fill(n, 1u << (4 + pick(14)));
+    need(hll_image_add(empty, len, values, 8 * n, ends, n, out, MOST, &len) == HLL_OK, "add");
+    if (hll_image_stage(out, len) == HLL_REGISTERS &&
+        pick(2) == 0) { /* as another program writes it, with a HIP estimate */
+        double hip = (double)n;
+        out[5] &= (uint8_t)~16;
+        memcpy(out + 8, &hip, 8);
+    }
+    return len;
+}
+
+/* ---- comparing */
+
+static int is_model(const hll_counter *counter, const model *m, int deep)
+{
+    static uint8_t out[MOST], wanted[MOST];
+    hll_estimation ours, theirs;
+    hll_state_summary said;
+    size_t size = 0, len;
+    unsigned width = 4 + 2 * pick(3);
+    if (hll_counter_image(counter, width, out, MOST, &size) != HLL_OK)
+        return 0;
+    need(hll_image_convert(m->image, m->len, width, wanted, MOST, &len) == HLL_OK, "convert");
+    if (size != len || memcmp(out, wanted, len) != 0)
+        return 0;
+    need(hll_counter_info(counter, &said, sizeof said) == HLL_OK, "info");
+    if (said.is_empty != is_empty_image(m->image, m->len) || said.lg_k != m->image[3] || said.is_open != !m->is_begun)
+        return 0;
+    if (deep) {
+        need(hll_estimate(m->image, m->len, &theirs) == HLL_OK, "estimate");
+        if (hll_counter_estimate(counter, &ours) != HLL_OK || memcmp(&ours, &theirs, sizeof ours) != 0)
+            return 0;
+    }
+    return 1;
+}
+
+/* ---- a walk */
+
+enum {
+    ADD,
+    ADD_MANY,
+    ADD_COUPONS,
+    JOIN,
+    JOIN_MANY,
+    JOIN_COUNTER,
+    BIND,
+    COPY,
+    SETTLE,
+    RESERVE,
+    SHRINK,
+    RESET,
+    FREE,
+    IMAGE,
+    ESTIMATE,
+    N_KINDS
+};
+static long failures[N_KINDS], jumps[N_KINDS], done[N_KINDS];
+
+static uint8_t image_one[MOST], image_two[MOST], unwanted[MOST];
+static size_t one_len, two_len;
+static size_t n_values;
+static uint32_t coupons[4096];
+static unsigned bound;
+
+static hll_status act(int kind, hll_counter *counter, hll_counter *other)
+{
+    hll_bytes both[2] = {{image_one, one_len}, {image_two, two_len}};
+    hll_estimation found;
+    size_t size, failed;
+    switch (kind) {
+    case ADD:
+        return hll_counter_add(counter, values, 8);
+    case ADD_MANY:
+        return hll_counter_add_many(counter, values, 8 * n_values, ends, n_values);
+    case ADD_COUPONS:
+        return hll_counter_add_coupons(counter, coupons, n_values);
+    case JOIN:
+        return hll_counter_join(counter, image_one, one_len);
+    case JOIN_MANY:
+        return hll_counter_join_many(counter, both, 2, &failed);
+    case JOIN_COUNTER:
+        return hll_counter_join_counter(counter, other);
+    case BIND:
+        return hll_counter_bind(counter, bound);
+    case COPY:
+        return hll_counter_copy(counter, other);
+    case SETTLE:
+        return hll_counter_settle(counter);
+    case RESERVE:
+        return hll_counter_reserve(counter);
+    case SHRINK:
+        hll_counter_shrink(counter);
+        return HLL_OK;
+    case RESET:
+        hll_counter_reset(counter);
+        return HLL_OK;
+    case FREE:
+        hll_counter_free(counter);
+        return HLL_OK;
+    case IMAGE:
+        return hll_counter_image(counter, 8, unwanted, MOST, &size);
+    default:
+        return hll_counter_estimate(counter, &found);
+    }
+}
+
+static hll_status model_act(int kind, model *m, const model *other)
+{
+    static model copy;
+    hll_status status;
+    switch (kind) {
+    case ADD:
+        return model_add(m, values, 8, ends, 1);
+    case ADD_MANY:
+    case ADD_COUPONS:
+        return model_add(m, values, 8 * n_values, ends, n_values);
+    case JOIN:
+        return model_join(m, image_one, one_len);
+    case JOIN_MANY:
+        copy = *m;
+        status = model_join(&copy, image_one, one_len);
+        if (status == HLL_OK)
+            status = model_join(&copy, image_two, two_len);
+        if (status == HLL_OK)
+            *m = copy;
+        return status;
+    case JOIN_COUNTER:
+        return model_join(m, other->image, other->len);
+    case BIND:
+        if (bound != 0 && (bound < 4 || 21 < bound || (m->is_begun && bound < m->image[3])))
+            return HLL_ARGUMENT;
+        m->lg_max_k = bound;
+        if (!m->is_begun && bound != 0)
+            model_init(m, bound);
+        return HLL_OK;
+    case COPY:
+        *m = *other;
+        return HLL_OK;
+    case RESERVE:
+        return m->is_begun ? HLL_OK : HLL_ARGUMENT;
+    case RESET:
+    case FREE:
+        model_init(m, m->lg_max_k);
+        return HLL_OK;
+    default:
+        return HLL_OK;
+    }
+}
+
+/* Acts, and returns -1 if the allocator jumped. */
+static int tried(heap *of, int kind, hll_counter *counter, hll_counter *other)
+{
+    if (setjmp(of->back) != 0)
+        return -1;
+    return act(kind, counter, other);
+}
+
+/* The blocks that a counter has. */
+static long blocks_of(const hll_counter *counter)
+{
+    return (counter->state != NULL) + (counter->spare != NULL);
+}
+
+/* The bytes that the state of a counter takes. */
+static size_t size_of(const hll_counter *counter)
+{
+    hll_state_summary said;
+    need(hll_state_info(counter->state, counter->room, &said, sizeof said) == HLL_OK, "a counter has a state");
+    return said.size;
+}
+
+static void walk(int steps)
+{
+    static model models[2];
+    static heap heaps[2];
+    hll_counter counters[2];
+    static const unsigned lg_ks[] = {0, 4, 5, 7, 8, 10, 12, 14};
+    unsigned usual = lg_ks[1 + pick(7)];
+    int i, step;
+    for (i = 0; i < 2; i++) {
+        unsigned lg_k = pick(3) == 0 ? 0 : pick(3) == 0 ? lg_ks[1 + pick(7)] : usual;
+        memset(&heaps[i], 0, sizeof heaps[i]);
+        CHECK(hll_counter_init(&counters[i], lg_k, resize, &heaps[i]) == HLL_OK, "init");
+        model_init(&models[i], lg_k);
+    }
+    for (step = 0; step < steps; step++) {
+        int at = (int)pick(2), kind = pick(2) == 0 ? ADD : (int)pick(N_KINDS),
+            repeats = kind == ADD ? 1 + (int)pick(40) : 1;
+        hll_counter *counter = &counters[at], *other = &counters[1 - at];
+        model *m = &models[at];
+        heap *of = &heaps[at];
+        if ((kind == FREE || kind == RESET) && pick(4) != 0)
+            continue;
+        if (kind == JOIN || kind == JOIN_MANY) {
+            one_len = any_image(image_one, pick(6) == 0 ? lg_ks[1 + pick(7)] : usual, 4 + 2 * pick(3));
+            two_len = any_image(image_two, usual, 8);
+            if (pick(10) == 0 && one_len > 8)
+                one_len--;
+        }
+        while (repeats-- > 0) {
+            static model before, after;
+            long attempt;
+            int kept_room = 0;
+            hll_status wanted;
+            bound = pick(3) == 0 ? pick(24) : lg_ks[pick(8)];
+            n_values = any_size();
+            fill(n_values > 0 ? n_values : 1, 1u << (4 + pick(14)));
+            for (i = 0; i < (int)n_values; i++)
+                coupons[i] = hll_coupon(values + 8 * i, 8);
+            before = after = *m;
+            wanted = model_act(kind, &after, &models[1 - at]);
+            for (attempt = 1;; attempt++) {
+                int status, did_jump;
+                long live = of->live;
+                long had = blocks_of(counter);
+                of->fails_at = attempt;
+                of->jumps = (int)pick(2);
+                status = tried(of, kind, counter, other);
+                did_jump = status < 0;
+                if (did_jump || (of->fails_at == 0 && status == HLL_MEMORY)) {
+                    of->fails_at = 0;
+                    if (did_jump)
+                        jumps[kind]++;
+                    else
+                        failures[kind]++;
+                    CHECK(is_model(counter, &before, 1), "kind %d, attempt %ld, jump %d", kind, attempt, did_jump);
+                    CHECK(of->live - live == blocks_of(counter) - had, "a block is lost, kind %d", kind);
+                    need(attempt < 100, "an end of failures");
+                    continue;
+                }
+                kept_room = of->fails_at == 0;
+                of->fails_at = 0;
+                CHECK(status == wanted, "kind %d: %d, not %d", kind, status, wanted);
+                done[kind]++;
+                break;
+            }
+            *m = after;
+            CHECK(is_model(counter, m, pick(4) == 0), "kind %d, step %d, lg_k %u, len %zu", kind, step, m->lg_max_k,
+                  m->len);
+            CHECK(of->live == blocks_of(counter), "live %ld", of->live);
+            CHECK(kind == IMAGE || kind == ESTIMATE || counter->spare == NULL, "kind %d leaves a second state", kind);
+            if (kind == SHRINK && counter->state != NULL && !kept_room)
+                CHECK(counter->room == size_of(counter), "room %zu", counter->room);
+        }
+    }
+    for (i = 0; i < 2; i++) {
+        hll_counter_free(&counters[i]);
+        CHECK(heaps[i].live == 0, "%ld blocks left", heaps[i].live);
+    }
+}
+
+static void test_refused_coupons(void)
+{
+    static const size_t sizes[] = {0, 10, 20, 1000};
+    size_t i, n, size;
+    for (i = 0; i < 4; i++)
+        for (n = 1; n <= 40; n += 13) {
+            uint32_t given[40];
+            uint8_t before[HLL_IMAGE_MAX(8)], after[HLL_IMAGE_MAX(8)];
+            size_t before_len;
+            hll_counter counter;
+            hll_counter_init(&counter, 8, NULL, NULL);
+            fill(sizes[i] > 0 ? sizes[i] : 1, 1u << 30);
+            CHECK(hll_counter_add_many(&counter, values, 8 * sizes[i], ends, sizes[i]) == HLL_OK, "add_many");
+            for (size = 0; size < n; size++)
+                given[size] = UINT32_C(1) << 26 | (uint32_t)size;
+            given[n - 1] = 5;
+            hll_counter_image(&counter, 8, before, sizeof before, &before_len);
+            CHECK(hll_counter_add_coupons(&counter, given, n) == HLL_ARGUMENT, "a coupon of the value 0");
+            hll_counter_image(&counter, 8, after, sizeof after, &size);
+            CHECK(size == before_len && memcmp(before, after, size) == 0, "unchanged");
+            CHECK(hll_counter_image(&counter, 5, after, sizeof after, &size) == HLL_ARGUMENT, "a width of 5");
+            hll_counter_free(&counter);
+        }
+    {
+        hll_counter counter;
+        CHECK(hll_counter_init(&counter, 3, NULL, NULL) == HLL_ARGUMENT &&
+                  hll_counter_init(&counter, 22, NULL, NULL) == HLL_ARGUMENT &&
+                  hll_counter_init(&counter, 268, NULL, NULL) == HLL_ARGUMENT,
+              "an lg_k out of its range");
+    }
+}
+
+/* Coupons that are added one by one wait as values do, and so take the same room. */
+static void test_single_coupons(void)
+{
+    hll_counter values, coupons;
+    uint64_t value;
+    int is_same = 1;
+    hll_counter_init(&values, 12, NULL, NULL);
+    hll_counter_init(&coupons, 12, NULL, NULL);
+    for (value = 0; value < 1000 && is_same; value++) {
+        uint32_t coupon = hll_coupon((const uint8_t *)&value, sizeof value);
+        is_same = hll_counter_add(&values, (const uint8_t *)&value, sizeof value) == HLL_OK &&
+                  hll_counter_add_coupons(&coupons, &coupon, 1) == HLL_OK && values.room == coupons.room &&
+                  values.n_waiting == coupons.n_waiting && values.is_dense == coupons.is_dense;
+    }
+    CHECK(is_same, "value %lu: %d values wait and %d coupons, in %zu and %zu bytes", (unsigned long)value,
+          values.n_waiting, coupons.n_waiting, values.room, coupons.room);
+    hll_counter_free(&values);
+    hll_counter_free(&coupons);
+}
+
+int main(int argc, char **argv)
+{
+    long walks = argc > 1 ? atol(argv[1]) : 200, i;
+    uint64_t first = argc > 2 ? (uint64_t)atol(argv[2]) : 1;
+    test_refused_coupons();
+    test_single_coupons();
+    for (i = 0; i < walks; i++) {
+        seed = (first + (uint64_t)i) * UINT64_C(0x9E3779B97F4A7C15);
+        walk(60);
+    }
+    for (i = 0; i < N_KINDS && walks >= 100; i++)
+        CHECK(done[i] > 0 &&
+                  (i >= IMAGE || i == RESET || i == FREE || i == SHRINK || i == BIND || failures[i] + jumps[i] > 0),
+              "kind %ld never failed", i);
+    return finish("counters");
+}

@@ -1,0 +1,7 @@
+-- SPDX-License-Identifier: Apache-2.0
+use Rattle.hll_c.proofs.GrowingUnions.{MergesRest}
+use Rattle.hll_c.proofs.union.merge_in_all.Given as goal
+
+-- the images so far were merged
+abbrev pub invariant-loop-number : goal.invariant-loop-number
+invariant-loop-number g l = MergesRest l.fn.union l.union (g.I.Images.images l.images) l.fn.failed l.failed l.number

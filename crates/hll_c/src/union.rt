@@ -1,0 +1,264 @@
+// SPDX-License-Identifier: Apache-2.0
+//! Unions of several images. Images of few coupons are merged from bytes to bytes. All others are merged into a state of a
+//! counter, which grows as they need it.
+ghost use Rattle.std.specs.Prelude.{◌≡◌, ◌≢◌, ℕ, ◌+◌, ◌-◌, ◌≤◌, true, List, [], ◌∷◌, length, map, IfSome, IfNone, IfOk, IfErr, OnOk, OnErr};
+ghost use Rattle.hll_base.specs.declared.error.Reason.TheVariants.{Memory};
+ghost use Rattle.hll_sketch.specs.BorrowedImage.{sketch_of_borrowed};
+ghost use Rattle.hll_sketch.specs.CouponImages.{IsImageOfUnion, AreBothRead};
+ghost use Rattle.hll_sketch.specs.EstimatorFields.{FillsFields};
+ghost use Rattle.hll_sketch.specs.Merging.{merge, empty_union};
+ghost use Rattle.hll_sketch.specs.Refusal.{IsRefusal};
+ghost use Rattle.hll_sketch.specs.Value.{IsLgK, IsLegal};
+ghost use Rattle.hll_state.specs.Merged.{HasRoomToMerge};
+ghost use Rattle.hll_state.specs.declared.join.Joined.TheVariants as joins;
+ghost use Rattle.hll_c.specs.Answers.{IsImageOf, WithFields, RefusesImages};
+ghost use Rattle.hll_c.specs.Batches.{AreEnds, strings};
+ghost use Rattle.hll_c.specs.Calls.{AreUnionArguments, IsUnionOf, AreBatchArguments, IsUnionOfBatch};
+ghost use Rattle.hll_c.specs.Steps.{union_so_far, IsMergedInPlace, MergesInto, MergesInAll, IsRefusedAt, FailsToMergeIn};
+
+use crate::arguments::{lg_k_of_number, width_of};
+use crate::batch::are_ends;
+use crate::image::refused_at;
+use crate::several_images::{Batch, Images, Parts};
+use crate::state::image_of_held;
+use hll_base::error::{Error, Reason};
+use hll_base::hll_type::HllType;
+use hll_sketch::borrowed_image::BorrowedImage;
+use hll_sketch::coupon_room::CouponRoom;
+use hll_sketch::union_of_coupon_images;
+use hll_state::header::{HEADER_LEN, Header};
+use hll_state::join::Joined;
+use std::alloc::Global;
+use std::marker::Model;
+
+/// The least number of elements that a union gets, so that small unions grow once.
+const LEAST_LEN: usize = 256;
+
+/// The most bytes of two images of which the union is made from bytes to bytes, whatever the bound is.
+const MOST_IN_LISTS: usize = 64;
+
+/// A union that images are merged into: a state of a counter whose memory grows. Contracts see the bound, the header and the
+/// elements after it; `union_so_far` is the sketch that they mean.
+///
+/// A union is thrown away if an image is rejected, so nothing is said of it then.
+#[derive(Drop)]
+struct GrowingUnion {
+    /// The bound of its `lg_k`.
+    lg_max_k: u8,
+    /// What the elements hold.
+    header: Header,
+    /// Coupons or registers.
+    elements: Vec<[u8; 4]>,
+}
+
+impl Model for GrowingUnion {
+    ghost use Rattle.hll_c.specs.Steps.{Union, IsUnder};
+
+    ghost Value = { Union };
+
+    ghost view = { λ u. record { lg_max_k = u.lg_max_k; header = u.header; elements = u.elements.items } };
+
+    ghost invariant = { λ u. IsUnder u.lg_max_k u.header u.elements.items };
+}
+
+impl GrowingUnion {
+    /// Returns the union of no images, with this bound. Allocates nothing.
+    fn new(alloc: Global, lg_max_k: u8) -> GrowingUnion
+        requires { IsLgK lg_max_k }
+        ensures bound { result.lg_max_k ≡ lg_max_k }
+        ensures empty { union_so_far result ≡ empty_union lg_max_k }
+    {
+        GrowingUnion {
+            lg_max_k,
+            header: Header::new(lg_max_k),
+            elements: Vec::new(alloc),
+        }
+    }
+
+    /// Merges the image with this number. If it fails a check, `failed` becomes its number.
+    fn merge_in(
+        &mut self,
+        alloc: Global,
+        image: &[u8],
+        number: usize,
+        failed: &mut usize,
+    ) -> Result<(), Error>
+        ensures ok { OnOk result (MergesInto self.old self.new image.now × (failed.new ≡ failed.old)) }
+        ensures err { IfErr result (λ e. IsRefusedAt image.now number failed.old failed.new e) }
+    {
+        match self.update_with_image(alloc, image) {
+            Ok(()) => Ok(()),
+            Err(e) => Err(refused_at(e, number, failed)),
+        }
+    }
+
+    /// Merges an image.
+    ///
+    /// Fails with the reason of the first check that the bytes fail, or with `Memory`, once the bytes that the image asks for
+    /// are there.
+    fn update_with_image(&mut self, alloc: Global, image: &[u8]) -> Result<(), Error>
+        ensures ok { OnOk result (MergesInto self.old self.new image.now) }
+        ensures err { IfErr result (IsRefusal image.now) }
+    {
+        let mut room = CouponRoom::new();
+        let image = BorrowedImage::read(alloc, image, &mut room)?;
+        self.update(&image)
+    }
+
+    /// Merges a sketch. Fails with `Memory`.
+    fn update(&mut self, image: &BorrowedImage<'_, Global>) -> Result<(), Error>
+        requires { IsLegal (sketch_of_borrowed image.now) }
+        ensures ok { OnOk result (union_so_far self.new ≡ merge self.old.lg_max_k (union_so_far self.old) (sketch_of_borrowed image.now)) }
+        ensures bound { OnOk result (self.new.lg_max_k ≡ self.old.lg_max_k) }
+        ensures err { IfErr result (λ e. e ≡ Memory) }
+    {
+        if let Joined::NoRoom(len) = self.update_in_place(image) {
+            self.grow(len - HEADER_LEN)?;
+            self.update_in_place(image);
+        }
+        Ok(())
+    }
+
+    /// Merges a sketch if there is room for it.
+    fn update_in_place(&mut self, image: &BorrowedImage<'_, Global>) -> Joined
+        requires { IsLegal (sketch_of_borrowed image.now) }
+        ensures merged { IsMergedInPlace (sketch_of_borrowed image.now) self.old self.new result }
+        ensures bound { self.new.lg_max_k ≡ self.old.lg_max_k }
+    {
+        self.header.join(&mut self.elements, true, 0, image)
+    }
+
+    /// Makes room for at least this number of elements. Fails with `Memory`.
+    fn grow(&mut self, len: usize) -> Result<(), Error>
+        ensures room { OnOk result (len ≤ length self.new.elements) }
+        ensures header { OnOk result (self.new.header ≡ self.old.header) }
+        ensures bound { OnOk result (self.new.lg_max_k ≡ self.old.lg_max_k) }
+        ensures same { OnOk result (union_so_far self.new ≡ union_so_far self.old) }
+        ensures err { IfErr result (λ e. e ≡ Memory) }
+    {
+        let len = len.max(LEAST_LEN);
+        if self.elements.len() < len {
+            self.elements.resize(len, [0; 4])?;
+        }
+        Ok(())
+    }
+
+    /// Returns the image of the union at a width, with its estimator fields set if its estimate state is cleared.
+    ///
+    /// Fails with `Memory`.
+    fn into_image(mut self, alloc: Global, hll_type: HllType) -> Result<Vec<u8>, Error>
+        ensures ok { IfOk result (λ image. IsImageOf (FillsFields (record (union_so_far self) { width = hll_type })) image.items) }
+        ensures err { IfErr result (λ e. e ≡ Memory) }
+    {
+        self.header.resolve(&mut self.elements);
+        image_of_held(alloc, self.header, &self.elements, hll_type)
+    }
+}
+
+/// Returns the image of the union of two images.
+pub(crate) fn union_of_two(
+    alloc: Global,
+    lg_max_k: u32,
+    width: u32,
+    left: &[u8],
+    right: &[u8],
+    failed: &mut usize,
+) -> Result<Vec<u8>, Error>
+    ensures ok { IfOk result (λ image. IsImageOf (WithFields (IsUnionOf lg_max_k width (left.now ∷ right.now ∷ []) failed.old failed.new)) image.items) }
+    ensures err { IfErr result (λ e. RefusesImages (AreUnionArguments lg_max_k width) (left.now ∷ right.now ∷ []) failed.old failed.new e) }
+{
+    union_of_parts(alloc, lg_max_k, width, &[left, right], failed)
+}
+
+/// Returns the image of the union of images that need not be contiguous.
+pub(crate) fn union_of_parts(
+    alloc: Global,
+    lg_max_k: u32,
+    width: u32,
+    parts: &[&[u8]],
+    failed: &mut usize,
+) -> Result<Vec<u8>, Error>
+    ensures ok { IfOk result (λ image. IsImageOf (WithFields (IsUnionOf lg_max_k width (map (λ part. part.now) parts.now) failed.old failed.new)) image.items) }
+    ensures err { IfErr result (λ e. RefusesImages (AreUnionArguments lg_max_k width) (map (λ part. part.now) parts.now) failed.old failed.new e) }
+{
+    union_of(alloc, lg_max_k, width, &Parts { parts }, failed)
+}
+
+/// Returns the image of the union of the images that are delimited by `ends`.
+pub(crate) fn union_of_batch(
+    alloc: Global,
+    lg_max_k: u32,
+    width: u32,
+    images: &[u8],
+    ends: &[usize],
+    failed: &mut usize,
+) -> Result<Vec<u8>, Error>
+    ensures ok { IfOk result (λ image. IsImageOf (WithFields (IsUnionOfBatch lg_max_k width images.now ends.now failed.old failed.new)) image.items) }
+    ensures err { IfErr result (λ e. RefusesImages (AreBatchArguments lg_max_k width (length images.now) ends.now) (strings images.now ends.now) failed.old failed.new e) }
+{
+    if !are_ends(ends, images.len()) {
+        return Err(Error::new(Reason::Argument));
+    }
+    let batch = Batch {
+        bytes: images,
+        ends,
+    };
+    union_of(alloc, lg_max_k, width, &batch, failed)
+}
+
+/// Returns the image of the union of images at a width, with its estimator fields set if its estimate state is cleared. Two
+/// images of few coupons are merged from bytes to bytes.
+fn union_of<I: Images>(
+    alloc: Global,
+    lg_max_k: u32,
+    width: u32,
+    images: &I,
+    failed: &mut usize,
+) -> Result<Vec<u8>, Error>
+    requires { I.Images.are images.now }
+    ensures ok { IfOk result (λ image. IsImageOf (WithFields (IsUnionOf lg_max_k width (I.Images.images images.now) failed.old failed.new)) image.items) }
+    ensures err { IfErr result (λ e. RefusesImages (AreUnionArguments lg_max_k width) (I.Images.images images.now) failed.old failed.new e) }
+{
+    let lg_max_k = lg_k_of_number(lg_max_k)?;
+    let hll_type = width_of(width)?;
+    if images.count() == 2
+        && are_small(lg_max_k, images.image(0), images.image(1))
+        && let Some(image) = union_of_coupon_images(
+            alloc,
+            lg_max_k,
+            hll_type,
+            images.image(0),
+            images.image(1),
+        )?
+    {
+        return Ok(image);
+    }
+    let mut union = GrowingUnion::new(alloc, lg_max_k);
+    merge_in_all(&mut union, alloc, images, failed)?;
+    union.into_image(alloc, hll_type)
+}
+
+/// Returns whether the coupons of two images of these sizes are few enough for the largest table, if none is in both.
+fn are_small(lg_max_k: u8, left: &[u8], right: &[u8]) -> bool
+    requires { IsLgK lg_max_k }
+{
+    let most = MOST_IN_LISTS.max(3 << (lg_max_k - 3));
+    left.len() <= most && right.len() <= most - left.len()
+}
+
+/// Merges images into a union in turn.
+fn merge_in_all<I: Images>(
+    union: &mut GrowingUnion,
+    alloc: Global,
+    images: &I,
+    failed: &mut usize,
+) -> Result<(), Error>
+    requires { I.Images.are images.now }
+    ensures ok { OnOk result (MergesInAll union.old union.new (I.Images.images images.now) × (failed.new ≡ failed.old)) }
+    ensures err { IfErr result (λ e. FailsToMergeIn (I.Images.images images.now) failed.old failed.new e) }
+{
+    for number in 0..images.count() {
+        union.merge_in(alloc, images.image(number), number, failed)?;
+    }
+    Ok(())
+}
