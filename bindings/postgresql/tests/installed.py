@@ -327,8 +327,6 @@ def readme(server):
     said = server.run(front, "metrics").split("\n")
     shown = [line for line in said if re.fullmatch(r"2026-\d\d-01 00:00:00\S*\|\d+(\.\d+)?", line)]
     equal("README at the top: a line a month", (str(len(shown)), len(said)), (months, len(shown)))
-    plan = server.ask("EXPLAIN (VERBOSE, COSTS OFF) SELECT hyperloglog_union_agg(image) FROM daily_eu", "metrics")
-    check("README: the other server makes the union", "Remote SQL: SELECT public.hyperloglog_union_agg(image)" in plan, plan)
     sayings(server)
 
 
