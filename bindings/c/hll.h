@@ -9,7 +9,7 @@
  *     hll_image_add(empty, empty_size, (const uint8_t *)"hello", 5, &end, 1, image, sizeof image, &size);
  *     hll_estimate(image, size, &found);
  *
- * A sketch has one of three forms, all in memory of the caller. The library keeps no memory between calls, and there are no
+ * A sketch has one of three forms, all in caller-owned memory. The library keeps no memory between calls, and there are no
  * handles: the caller frees only what the caller allocated.
  *     An image is the bytes of a sketch, for files, columns and other DataSketches libraries. Calls over images read an image
  *     and write another one.
@@ -97,18 +97,18 @@
  *     - If an image is merged into registers that are not all 0, and these are written as an image, the result is the union of
  *       the registers and the image, with the estimator fields set.
  *     - What a state means after a merge (hll_state_join), for states that only calls of this library have written. None of
- *       these has registers that are all 0; nothing is said of merges into a state of which other code made that.
+ *       these has registers that are all 0; if other code made such a state, nothing is said of merges into it.
  *     - The estimate from registers (of images, registers, histograms and states): it never falls if a register rises. It is
  *       the double nearest to a number that differs by at most one part in 2^40 plus 2^-32 from the greater of the number of
  *       registers above 0 and the value of the formula in docs/NUMBERS.md.
- *     - The sketch of a new state into which hll_state_join merged images under the lg_max_k that it was made with is the one of
- *       which hll_images_union writes the image, for the same images and lg_max_k.
+ *     - If hll_state_join merges images into a new state, under the lg_max_k that it was made with, the state has the sketch whose
+ *       image hll_images_union writes for the same images and lg_max_k.
  *     - Of the unions that hll_image_merge, hll_images_union and hll_images_unionv write, for canonical images under one lg_max_k:
  *       the bytes don't depend on the order, repetition and grouping of the images (the laws bytes_of_unions of hll_sketch), and
  *       the union is canonical too.
  *     Not proved, but tested: counters, bounds, estimates from coupons, hll_hip_estimate, hll_version, the division of a state's
- *     room by four, and what this header defines itself. Nothing is proved of time, threads, NULL and other libraries. Of memory it
- *     is proved only for which images an allocation may fail.
+ *     room by four, and what this header defines itself. Nothing is proved of time, threads, NULL and other libraries. Of memory
+ *     one thing is proved: for which images an allocation may fail.
  */
 #ifndef HLL_H
 #define HLL_H
@@ -394,7 +394,7 @@ hll_status hll_registers_image(const uint8_t *registers, size_t count, unsigned 
 
 /* ---- states ----
  *
- * A sketch that grows in memory of the caller: coupons while it is small, registers later. The caller frees that memory, and
+ * A sketch that grows in caller-owned memory: coupons while it is small, registers later. The caller frees that memory, and
  * nothing else.
  *
  *     size_t room = HLL_STATE_NEW, size;
@@ -410,7 +410,7 @@ hll_status hll_registers_image(const uint8_t *registers, size_t count, unsigned 
  * On HLL_BUFFER the sketch is unchanged, and *size bytes are enough for the same call. For coupons they are enough for half as
  * many again and eight more, for registers they are exactly what is needed, and they are at most HLL_STATE_MOST. So a loop
  * reallocates only a few times. The bytes may be moved, and need no alignment. They are the same on processors of either byte
- * order, but change with the version of the library, which then takes the bytes of another version for no state: store images in
+ * order. They change with the version of the library, which rejects bytes of another version (HLL_ARGUMENT): store images in
  * files and columns, not states.
  *
  * The image of a state is the image that hll_image_add and hll_images_union would make of an empty sketch with the same values
@@ -467,8 +467,8 @@ hll_status hll_state_add_coupons(void *state, size_t room, size_t *size, const u
  *     lg_max_k 0     Only sketches of one lg_k are merged. If the state has values, and the image has values of another lg_k,
  *                    the call returns HLL_OTHER_LG_K. A state without values takes the lg_k of the first image with values,
  *                    and until then the greatest lg_k of the empty images. Make the state with hll_state_new(0, ..).
- *     lg_max_k 4-21  Images of any lg_k are merged. Make the state with hll_state_new(lg_max_k, ..), or with lg_k 0, of which
- *                    the call first makes the same state, also if it then returns HLL_BUFFER. If lg_max_k is below the lg_k of
+ *     lg_max_k 4-21  Images of any lg_k are merged. Make the state with hll_state_new(lg_max_k, ..), or with lg_k 0: then
+ *                    the call first makes it that state, even if it returns HLL_BUFFER. If lg_max_k is below the lg_k of
  *                    a state that isn't open, the call returns HLL_ARGUMENT.
  *
  * On HLL_BUFFER *size bytes are enough for the same call, at most HLL_STATE_MOST of the greater lg_k. A loop over images:

@@ -24,7 +24,7 @@ inline hll::width width_of(target_hll_type type)
 }
 
 /// Adds values to a sketch or a union, by the rules of datasketches-cpp: an unsigned integer of less than 64 bits counts
-/// as the signed integer of its size, and an empty text and a null pointer are no values.
+/// as the signed integer of its size, and an empty string and a null pointer are no values.
 template <class Counter> class values {
   public:
     void update(uint64_t value) { counter_.update(value); }

@@ -25,7 +25,7 @@
 //     std::bad_alloc           an allocation failed
 //     std::logic_error         other code has overwritten the memory of the object, or the library that the program
 //                              runs with has another version than the header
-//     std::ios_base::failure   a stream did not take an image
+//     std::ios_base::failure   an image could not be written to a stream
 //
 // Threads. Several threads can call const members of one object at once, as with a container of the standard library.
 // While one thread calls another member, no other thread may use the object. A const member reads a copy of coupons that
@@ -398,22 +398,22 @@ typename std::enable_if<std::is_arithmetic<Number>::value>::type hash_batch(cons
 inline size_t length_of(const char *text)
 {
     if (text == nullptr)
-        throw std::invalid_argument("the text is a null pointer");
+        throw std::invalid_argument("the string is a null pointer");
     return std::strlen(text);
 }
 
-/// Returns the coupon of a text, or of another container of bytes.
+/// Returns the coupon of a string, or of another container of bytes.
 inline uint32_t coupon_of(const char *text)
 {
     return hll_coupon(reinterpret_cast<const uint8_t *>(text), length_of(text));
 }
 template <class Text> uint32_t coupon_of(const Text &text)
 {
-    static_assert(sizeof *text.data() == 1, "values are numbers, texts, or containers of bytes");
+    static_assert(sizeof *text.data() == 1, "values are numbers, strings, or containers of bytes");
     return hll_coupon(reinterpret_cast<const uint8_t *>(text.data()), text.size());
 }
 
-/// Writes the coupons of n texts or other containers of bytes, at most `batch`.
+/// Writes the coupons of n strings or other containers of bytes, at most `batch`.
 template <class Text>
 typename std::enable_if<!std::is_arithmetic<Text>::value>::type hash_batch(const Text *values, size_t n,
                                                                            uint32_t *coupons)
@@ -440,7 +440,7 @@ class counter {
         update(bytes, sizeof bytes);
     }
 
-    /// Adds a text: its bytes, which should be UTF-8. The empty text is a value like any other.
+    /// Adds a string: its bytes, which should be UTF-8. The empty string is a value like any other.
     void update(const std::string &value) { update(value.data(), value.size()); }
     void update(const char *value) { update(value, length_of(value)); }
 #if __cplusplus >= 201703L
@@ -456,12 +456,12 @@ class counter {
             checked(status, [=](counter &decided) { decided.update(value, size); });
     }
 
-    /// Adds n values, all or none: numbers, texts, or containers of bytes. Takes about half the time of adding them
+    /// Adds n values, all or none: numbers, strings, or containers of bytes. Takes about half the time of adding them
     /// one by one.
     template <class Value> void update_many(const Value *values, size_t n)
     {
         static_assert(!std::is_same<Value, char>::value,
-                      "characters are one text, which update adds; numbers of 8 bits are int8_t or uint8_t");
+                      "characters are one string, which update adds; numbers of 8 bits are int8_t or uint8_t");
         checked_bytes(values, n);
         uint32_t coupons[batch];
         if (n > batch && !state_.has_registers()) {
@@ -478,7 +478,7 @@ class counter {
         }
     }
 
-    /// Adds the values of a contiguous container, such as std::vector or std::array, or of a list in braces. A text is one
+    /// Adds the values of a contiguous container, such as std::vector or std::array, or of a list in braces. A string is one
     /// value: update adds it.
     template <class Container>
     auto update_many(const Container &values) -> decltype(values.data(), static_cast<void>(values.size()))
@@ -489,10 +489,10 @@ class counter {
     {
         update_many(values.begin(), values.size());
     }
-    void update_many(const std::string &) = delete; // a text is one value: update(text)
-    void update_many(const char *) = delete;        // a text is one value: update(text)
+    void update_many(const std::string &) = delete; // a string is one value: update(text)
+    void update_many(const char *) = delete;        // a string is one value: update(text)
 #if __cplusplus >= 201703L
-    void update_many(std::string_view) = delete; // a text is one value: update(text)
+    void update_many(std::string_view) = delete; // a string is one value: update(text)
 #endif
 
     /// Adds n raw coupons, as hll_coupon returns them.

@@ -209,7 +209,7 @@ _ANSWERS: Dict[str, object] = {
 
 def _is_in_checkout(package: pathlib.Path) -> bool:
     """Returns whether a package is that of a checkout, and not installed. Anybody might write into the
-    folder above the folder of an installation, so nothing is loaded from there."""
+    directory above the directory of an installation, so nothing is loaded from there."""
     python, bindings = package.parent, package.parent.parent
     is_so_named = (python.name, bindings.name) == ("python", "bindings")
     return is_so_named and (python / "setup.py").is_file() and (bindings / "c" / "Makefile").is_file()

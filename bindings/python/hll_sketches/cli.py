@@ -117,7 +117,7 @@ def _with_files(parser: argparse.ArgumentParser, nargs: str, what: str) -> None:
 
 
 def _with_folders(parser: argparse.ArgumentParser) -> None:
-    what = "a file, a folder (all files in it and below, except names that begin with a dot), or -"
+    what = "a file, a directory (all files in it and below, except names that begin with a dot), or -"
     _with_files(parser, "*", what)
     help_ = "read names of more files from LIST, one a line; - is standard input"
     parser.add_argument("--files-from", metavar="LIST", help=help_)
@@ -139,7 +139,7 @@ def _merge(parser: argparse.ArgumentParser) -> None:
     _with_output(parser, required=True)
     _with_lg_k(parser, "merge files of different lg_k, at this lg_k or a smaller one; 4 to 21")
     _with_width(parser)
-    parser.add_argument("--jobs", type=_jobs, metavar="N", help="the number of processes (one per processor)")
+    parser.add_argument("--jobs", type=_jobs, metavar="N", help="the number of processes (one for each core)")
     help_ = "leave out files that are not images or can't be read, print their names, and go on"
     parser.add_argument("--skip-bad", action="store_true", help=help_)
     help_ = "merge archives key by key, into an archive (otherwise all their sketches are merged into one)"
@@ -239,7 +239,7 @@ def _with_keys(parser: argparse.ArgumentParser) -> None:
 def _add(parser: argparse.ArgumentParser) -> None:
     parser.add_argument("file", metavar="FILE", nargs="?", help="the file of a sketch")
     _with_output(parser, help="the file to write (FILE itself); - is standard output")
-    help_ = "what a line counts as: a text (default), or an integer in decimal, as in Python and SQL"
+    help_ = "what a line counts as: a string (default), or an integer in decimal, as in Python and SQL"
     parser.add_argument("--as", dest="kind", choices=("text", "int"), default="text", help=help_)
     help_ = "wait for as long as another process holds the lock of FILE, and not ten seconds"
     parser.add_argument("--wait", action="store_true", help=help_)
@@ -277,8 +277,8 @@ _MORE = {
     "diff": "Exit status: 0 if they agree, once folded to the smaller lg_k; 1 if they differ; 2 for an error.",
     "plot": "The picture is a histogram, with the shape that the theory expects for the estimate.",
     "new": "Add values to it with `hll add`.",
-    "add": "A line counts as a text: its bytes without the LF, including a CR. An empty line is a "
-    "text too. So 7 is a text and not the integer 7, unless --as int is given. If another process "
+    "add": "A line counts as a string: its bytes without the LF, including a CR. An empty line is a "
+    "string too. So 7 is a string and not the integer 7, unless --as int is given. If another process "
     "holds the lock of FILE for ten seconds, nothing is added, unless --wait is given. With --by-key, a "
     "line is a key, a TAB and a value, and each key has a file of its own: KEY.hll, with bytes other than "
     "letters, digits, '.', '_' and '-' written as %XX. With --archive, all keys are in one file.",

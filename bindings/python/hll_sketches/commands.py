@@ -300,11 +300,11 @@ def estimate(options: Namespace) -> int:
     return status
 
 
-# ---- files and folders
+# ---- files and directories
 
 
 def named_files(options: Namespace, refuse: Tell) -> Iterator[str]:
-    """Returns the files of the command line, those in its folders, and those that a list names."""
+    """Returns the files of the command line, those in its directories, and those that a list names."""
     if not options.files and options.files_from is None:
         raise Trouble(options.command, "no files are named", UNUSABLE)
     yield from found(options.files, refuse, say)

@@ -29,7 +29,7 @@ STANDARD = "-"
 
 
 class FoundName(str):
-    """The path of a file that was found in a folder, where anybody might put another file in its place. A
+    """The path of a file that was found in a directory, where anybody might put another file in its place. A
     path that was named may be that of a pipe or a device."""
 
 
@@ -139,7 +139,7 @@ def _steps(path: str) -> List[bytes]:
 
 
 def _opened_in_steps(path: str, flags: int) -> int:
-    """Opens a file by opening the folders above it, one after another."""
+    """Opens a file by opening the directories above it, one after another."""
     *folders, last = _steps(path)
     above: Optional[int] = None
     try:
@@ -189,13 +189,13 @@ def read_image(read: Read) -> bytes:
 
 
 def opened_to_read(path: str) -> int:
-    """Opens a file. A file that was found in a folder has to be a plain file still."""
+    """Opens a file. A file that was found in a directory has to be a plain file still."""
     if not isinstance(path, FoundName):
         return opened(path, os.O_RDONLY)
     place = opened(path, os.O_RDONLY | os.O_NONBLOCK | os.O_NOCTTY)
     if not stat.S_ISREG(os.fstat(place).st_mode):
         os.close(place)
-        raise OSError(errno.EINVAL, "No plain file any more, as it was when its folder was read")
+        raise OSError(errno.EINVAL, "No plain file any more, as it was when its directory was read")
     return place
 
 
@@ -322,11 +322,11 @@ def _write_standard(data: Data) -> None:
 
 def _check_link(name: str, link: str) -> None:
     """Raises an error for a link that the kernel wouldn't follow where ``fs.protected_symlinks`` is set:
-    another user put it into a folder in which all users may make files, as into ``/tmp``."""
+    another user put it into a directory in which all users may make files, as into ``/tmp``."""
     owner, folder = os.lstat(link).st_uid, os.stat(os.path.dirname(link) or os.curdir)
     is_shared = folder.st_mode & stat.S_ISVTX and folder.st_mode & stat.S_IWOTH
     if is_shared and owner not in (os.geteuid(), folder.st_uid):
-        words = "Permission denied (another user made this symbolic link in a folder for all users)"
+        words = "Permission denied (another user made this symbolic link in a directory for all users)"
         raise OSError(errno.EACCES, words, name)
 
 
@@ -390,7 +390,7 @@ def _fill(place: int, data: Data, before: Optional[os.stat_result], sync: int) -
 
 @contextmanager
 def _temporary(path: str) -> Iterator[str]:
-    """Yields a temporary name in the same folder, which walks skip. Signals are delayed while a file has
+    """Yields a temporary name in the same directory, which walks skip. Signals are delayed while a file has
     this name, and at the end no file has it."""
     name = f".hll-{os.getpid()}-{os.urandom(8).hex()}"
     temporary = os.path.join(os.path.dirname(path), name)
@@ -466,7 +466,7 @@ def _replace_by_name(
 
 
 def sync_folder(folder: str) -> None:
-    """Syncs the names in a folder to disk, if the folder can be read and its file system supports that."""
+    """Syncs the names in a directory to disk, if the directory can be read and its file system supports that."""
     try:
         place = os.open(folder, os.O_RDONLY | os.O_DIRECTORY | os.O_CLOEXEC)
     except PermissionError:
@@ -507,7 +507,7 @@ def _write_into(path: str, data: Data) -> None:
 def write_path(name: str, data: Data, sync: int = ALL) -> None:
     """Writes a whole file, or leaves it unchanged. The file keeps its owner and its mode.
 
-    With ``CONTENTS``, the caller has to call ``sync_folder`` for the folder of the file. With ``NOTHING``,
+    With ``CONTENTS``, the caller has to call ``sync_folder`` for the directory of the file. With ``NOTHING``,
     the file can be empty or incomplete after a crash of the system.
 
     Raises
@@ -590,7 +590,7 @@ class Item(NamedTuple):
 
 
 class _Unnamed:
-    """A file of a folder that is complete and has no name yet. It is gone when it is closed without a name.
+    """A file of a directory that is complete and has no name yet. It is gone when it is closed without a name.
 
     Attributes
     ----------
@@ -671,7 +671,7 @@ def _write_one(item: Item) -> bool:
 
 
 def write_together(items: Sequence[Item]) -> Iterator[bool]:
-    """Writes whole files of one folder, and yields for each whether it is written: a new file isn't if another
+    """Writes whole files of one directory, and yields for each whether it is written: a new file isn't if another
     file has its name. All are on disk before the first gets its name, so a disk syncs them together. Their names
     are not on disk until ``sync_folder`` is called.
 

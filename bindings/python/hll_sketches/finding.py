@@ -1,5 +1,5 @@
 # SPDX-License-Identifier: Apache-2.0
-"""Finds files: by name, in folders, and by lists of names."""
+"""Finds files: by name, in directories, and by lists of names."""
 from __future__ import annotations
 
 import errno
@@ -13,11 +13,11 @@ LONGEST_NAME = 1 << 20
 """The most bytes of a name in a list."""
 
 MOST_STEPS = 1000
-"""The most folders that are gone up at once."""
+"""The most directories that are gone up at once."""
 
 _FILE, _FOLDER = "file", "folder"
 _KINDS = {
-    stat.S_IFDIR: "a folder",
+    stat.S_IFDIR: "a directory",
     stat.S_IFIFO: "a FIFO",
     stat.S_IFSOCK: "a socket",
     stat.S_IFCHR: "a device",
@@ -29,11 +29,11 @@ _FLAGS = os.O_RDONLY | os.O_DIRECTORY | os.O_CLOEXEC
 Tell = Callable[[Trouble], None]
 
 
-# ---- folders
+# ---- directories
 
 
 def _kind_behind(entry: os.DirEntry[str]) -> str:
-    """Returns what an entry is that is neither a plain file nor a folder. A link to a file is a file."""
+    """Returns what an entry is that is neither a plain file nor a directory. A link to a file is a file."""
     is_link = entry.is_symlink()
     try:
         mode = entry.stat().st_mode
@@ -58,14 +58,14 @@ Entries = List[Tuple[str, str]]
 
 
 def _entries(place: int) -> Entries:
-    """Returns the names in a folder, in order, and what they are. Skips names that begin with a dot."""
+    """Returns the names in a directory, in order, and what they are. Skips names that begin with a dot."""
     with os.scandir(place) as entries:
         seen = (entry for entry in entries if not entry.name.startswith("."))
         return sorted((entry.name, _kind_of(entry)) for entry in seen)
 
 
 class _Folder:
-    """A folder of a walk: its path, which folder it is, and what it still has, in reverse order."""
+    """A directory of a walk: its path, which directory it is, and what it still has, in reverse order."""
 
     def __init__(self, path: str, place: int) -> None:
         self.path, status = path, os.fstat(place)
@@ -73,22 +73,22 @@ class _Folder:
         self.rest = _entries(place)[::-1]
 
     def is_at(self, place: int) -> bool:
-        """Returns whether an open folder is this one."""
+        """Returns whether an open directory is this one."""
         status = os.fstat(place)
         return (status.st_dev, status.st_ino) == self._identity
 
 
 class _Walk:
-    """The folders from the first one down to the present one, which alone is open. So a walk needs few
-    open files, and each folder is opened from the one above it, however long its path is."""
+    """The directories from the first one down to the present one, which alone is open. So a walk needs few
+    open files, and each directory is opened from the one above it, however long its path is."""
 
     def __init__(self) -> None:
         self._above: List[_Folder] = []
         self._place: Optional[int] = None
-        self._level = 0     # of the folder that is open, which may be below the present one
+        self._level = 0     # of the directory that is open, which may be below the present one
 
     def enter(self, path: str, name: str) -> None:
-        """Opens a folder in the present one, or the first folder by its path."""
+        """Opens a directory in the present one, or the first directory by its path."""
         if not self._above:
             place = opened(path, _FLAGS)
         else:
@@ -107,8 +107,8 @@ class _Walk:
         self._place, self._level = place, len(self._above)
 
     def _return(self) -> None:
-        """Opens the present folder again after folders below it: by their links to the folder above, or by
-        its path if that doesn't lead there, as somebody moved a folder."""
+        """Opens the present directory again after directories below it: by their links to the directory above, or by
+        its path if that doesn't lead there, as somebody moved a directory."""
         present = self._above[-1]
         while self._place is not None and self._level > len(self._above):
             steps = min(self._level - len(self._above), MOST_STEPS)
@@ -139,7 +139,7 @@ class _Walk:
 
 
 def _walked(folder: str, refuse: Tell, pass_over: Tell) -> Iterator[str]:
-    """Yields the files in a folder and its subfolders, in the order of their names."""
+    """Yields the files in a directory and its subdirectories, in the order of their names."""
     walk, path, name, kind = _Walk(), folder, folder, _FOLDER
     try:
         while True:
@@ -161,7 +161,7 @@ def _walked(folder: str, refuse: Tell, pass_over: Tell) -> Iterator[str]:
 
 
 def _walk(folder: str, refuse: Tell, pass_over: Tell) -> Iterator[str]:
-    """Does what ``_walked`` does, and reports a folder without files."""
+    """Does what ``_walked`` does, and reports a directory without files."""
     is_silent = True
 
     def refused(trouble: Trouble) -> None:
@@ -173,21 +173,21 @@ def _walk(folder: str, refuse: Tell, pass_over: Tell) -> Iterator[str]:
         is_silent = False
         yield path
     if is_silent:
-        refuse(Trouble(folder, "no files in this folder", UNUSABLE))
+        refuse(Trouble(folder, "no files in this directory", UNUSABLE))
 
 
 def found(names: Iterable[str], refuse: Tell, pass_over: Tell) -> Iterator[str]:
-    """Yields the files that are named, and the files in the folders that are named.
+    """Yields the files that are named, and the files in the directories that are named.
 
     Parameters
     ----------
     names : iterable of str
-        Files and folders; ``-`` is standard input.
+        Files and directories; ``-`` is standard input.
     refuse : callable
-        Called with the error of each folder that can't be read or has no file.
+        Called with the error of each directory that can't be read or has no file.
     pass_over : callable
-        Called for each link to a folder, link that leads nowhere, FIFO, socket or device in a
-        folder.
+        Called for each link to a directory, link that leads nowhere, FIFO, socket or device in a
+        directory.
     """
     for name in names:
         if name == STANDARD or not os.path.isdir(name):

@@ -284,8 +284,8 @@ def merge_files(
     Parameters
     ----------
     paths : iterable of str, bytes or path
-        Files and folders. All files below a folder are merged, except names that begin with a dot.
-        Pipes, sockets, devices and links to folders are skipped, with a warning for each.
+        Files and directories. All files below a directory are merged, except names that begin with a dot.
+        Pipes, sockets, devices and links to directories are skipped, with a warning for each.
     lg_max_k, width : int, optional
         As for ``union_of``.
     jobs : int

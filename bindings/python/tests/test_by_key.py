@@ -226,9 +226,9 @@ class ByKeyTest(CommandTest):
             (b"a\ty\nc\tz\nb\tz\n", 1, "standard input: after line 3 the sketches of 3 keys need more than "
              "512 bytes (--memory allows more, and --sorted needs one sketch at a time)", ["--memory", "512"]),
             (b"a\ty\nbad\tz\n", 1, f"keys/bad.hll: {TRUNCATED}", []),
-            (b"a\ty\nfolder\tz\n", 2, "keys/folder.hll: No plain file any more, as it was when its folder "
+            (b"a\ty\nfolder\tz\n", 2, "keys/folder.hll: No plain file any more, as it was when its directory "
              "was read", []),
-            (b"a\ty\nfifo\tz\n", 2, "keys/fifo.hll: No plain file any more, as it was when its folder "
+            (b"a\ty\nfifo\tz\n", 2, "keys/fifo.hll: No plain file any more, as it was when its directory "
              "was read", []),
         ):
             with self.subTest(err=err):

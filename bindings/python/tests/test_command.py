@@ -603,7 +603,7 @@ class CheckTest(CommandTest):
         (self.folder / "all" / "round").symlink_to("..")
         (self.folder / "all" / "link").symlink_to("a")
         err = "".join(f"hll: all/{name} (passed over)\n" for name in (
-            "pipe: a FIFO", "round: a link to a folder"
+            "pipe: a FIFO", "round: a link to a directory"
         ))
         self.assertEqual(self.run_hll("check", "all"), (0, b"", err))
         given = self.read("all/a")
@@ -616,7 +616,7 @@ class CheckTest(CommandTest):
         status, out, err = self.run_hll("check", "none", "a")
         wanted = (2, b"a: " + TRUNCATED.encode() + b"\n", "hll: none: No such file or directory\n")
         self.assertEqual((status, out, err), wanted)
-        self.fails(2, ["empty: no files in this folder"], "check", "empty")
+        self.fails(2, ["empty: no files in this directory"], "check", "empty")
         self.fails(2, ["check: no files are named"], "check")
 
     def test_names_of_any_bytes(self):
@@ -872,7 +872,7 @@ class OutputsTest(CommandTest):
         shared.mkdir()
         link, image = shared / "out.svg", image_of(range(9))
         self.write("b.hll", image)
-        words = "Permission denied (another user made this symbolic link in a folder for all users)"
+        words = "Permission denied (another user made this symbolic link in a directory for all users)"
         commands_ = [*(command for command in self.COMMANDS if command[0] != "add"), ["new", "a.svg"],
                      ["add", "b.hll", "-o", "a.svg"]]
         for mode, owner, of_folder, is_followed in (

@@ -38,7 +38,7 @@ class FoldersTest(CommandTest):
                  "sub/pipe": "../fifo", "file": "a", "through": "a/b"}
         for name, to in links.items():
             (self.folder / "all" / name).symlink_to(to)
-        wanted = {"fifo": "a FIFO", "socket": "a socket", "folder": "a link to a folder",
+        wanted = {"fifo": "a FIFO", "socket": "a socket", "folder": "a link to a directory",
                   "gone": "a link that leads nowhere", "round": "a link that leads nowhere",
                   "null": "a link to a device", "sub/pipe": "a link to a FIFO",
                   "through": "a link that leads nowhere"}
@@ -102,8 +102,8 @@ class FoldersTest(CommandTest):
         os.makedirs(self.folder / "all" / "sub")
         self.write("a", IMAGE)
         words = ("merge", "all", "a", "-o", "one.hll")
-        self.fails(2, ["all: no files in this folder"], *words)
-        err = "hll: all: no files in this folder (left out)\n"
+        self.fails(2, ["all: no files in this directory"], *words)
+        err = "hll: all: no files in this directory (left out)\n"
         self.assertEqual(self.run_hll(*words, "--skip-bad"), (0, b"", err))
         self.assertEqual(self.read("one.hll"), IMAGE)
 
@@ -180,8 +180,8 @@ class FoldersTest(CommandTest):
         self.assertEqual(len(os.listdir("/proc/self/fd")), before)
 
     def test_what_takes_the_place_of_a_file(self):
-        """A FIFO or a link that somebody puts there after its folder was read is an error of that file."""
-        words = "No plain file any more, as it was when its folder was read"
+        """A FIFO or a link that somebody puts there after its directory was read is an error of that file."""
+        words = "No plain file any more, as it was when its directory was read"
         for number, swap in enumerate((os.mkfifo, lambda path: os.symlink("/dev/zero", path))):
             folder = f"all{number}"
             for name in ("a", "b", "c"):

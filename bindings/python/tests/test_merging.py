@@ -293,7 +293,7 @@ class RefusalsTest(LaidOut):
         (self.folder / "empty").mkdir()
         words = [f"bad: {TRUNCATED} (left out)", "merge: no image is left to merge"]
         self.fails(1, words, "merge", "bad", "--skip-bad", "-o", "one.hll")
-        self.fails(2, ["empty: no files in this folder"], "merge", "empty", "-o", "one.hll")
+        self.fails(2, ["empty: no files in this directory"], "merge", "empty", "-o", "one.hll")
         self.fails(2, ["merge: no files are named"], "merge", "-o", "one.hll")
         self.fails(2, ["merge: no image is left to merge"], "merge", "--files-from", "-", "-o", "x")
         self.assertEqual(self.listed(), ["bad", "empty"])

@@ -9,7 +9,7 @@ use crate::libhll;
 
 const SHORT: usize = 40;
 
-/// A text of 256 bytes and the byte ff after it, rounded up.
+/// A string of 256 bytes and the byte ff after it, rounded up.
 const MEDIUM: usize = 264;
 
 /// Collects the bytes that a value's `Hash` writes; up to 264 of them without an allocation.
@@ -104,7 +104,7 @@ pub mod value {
         #[derive(Debug, Clone, Copy)]
         pub struct RawBytes<'a>(&'a [u8]);
 
-        /// Returns the UTF-8 bytes of a text.
+        /// Returns the UTF-8 bytes of a string.
         #[allow(clippy::should_implement_trait)] // the name of the original
         pub fn from_str(text: &str) -> RawBytes<'_> {
             RawBytes(text.as_bytes())
