@@ -132,7 +132,7 @@ class Lines:
         self._are_ints, self._longest = are_ints, longest
 
     def add(self, stream: BinaryIO, more: Optional[Callable[[int], None]] = None) -> None:
-        """Adds each line of a stream, as ``lines_of`` yields them. An empty line is a text like any other.
+        """Adds each line of a stream, as ``lines_of`` yields them. An empty line is a string like any other.
 
         Parameters
         ----------
