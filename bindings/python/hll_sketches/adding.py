@@ -111,7 +111,7 @@ class Lines:
         A legal image, to which the lines are added.
     are_ints : bool
         Whether each line is a decimal 64-bit integer and counts as an ``int``. Otherwise each line
-        is a text.
+        is a string.
     longest : int
         The most bytes of a line, without its LF.
 

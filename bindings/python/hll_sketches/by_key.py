@@ -81,7 +81,7 @@ class Counters:
         Returns the image with which the sketch of a new key begins, or raises ``KeyFault``.
     are_ints : bool
         Whether each value is a decimal 64-bit integer and counts as an ``int``. Otherwise it counts as
-        a text.
+        a string.
     memory : int
         The most bytes of memory for the sketches.
 
