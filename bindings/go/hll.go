@@ -12,7 +12,7 @@
 // An error leaves the sketch as it was. One goroutine at a time uses a sketch, also to read it; different sketches share nothing.
 //
 // The memory of a sketch is C's. The garbage collector frees it with the sketch, but doesn't count it: a program that makes many
-// large sketches should call Close where it needs one no longer.
+// large sketches should call Close on each one that it doesn't need any more.
 package hll
 
 // #include "hll.h"
@@ -79,7 +79,7 @@ func start(bytes []byte) *C.uint8_t {
 // batch is the number of values that are added by one call: a call from Go into C takes about as long as adding ten.
 const batch = 256
 
-// counter is a counter of hll.h. It has an allocation of its own, so that its memory is freed once, whoever copies a Sketch.
+// counter is a counter of hll.h. It has an allocation of its own, so its memory is freed once, whoever copies a Sketch.
 type counter struct{ c C.hll_counter }
 
 // newCounter returns an empty counter, whose bound is its lg_k.
@@ -109,8 +109,8 @@ func New(lgK int) (*Sketch, error) {
 	return s, err
 }
 
-// NewUnion returns an empty sketch into which sketches of every lg_k are merged. Its lg_k is lgMaxK, or the smallest of a merged
-// sketch with registers, if that is smaller.
+// NewUnion returns an empty sketch into which sketches of every lg_k are merged. Its lg_k is lgMaxK, or the smallest lg_k of
+// a merged sketch with registers, if that is smaller.
 func NewUnion(lgMaxK int) (*Sketch, error) {
 	if lgMaxK < 4 || lgMaxK > 21 {
 		return nil, fmt.Errorf("lg_k is %d; it must be 4 to 21", lgMaxK)
@@ -249,7 +249,7 @@ func (s *Sketch) Image(width Width) ([]byte, error) {
 type Estimation struct {
 	// Estimate is the estimated number of distinct values.
 	Estimate float64
-	// RelativeStandardError is that of the estimate.
+	// RelativeStandardError is the standard deviation of the estimate, divided by the number of values.
 	RelativeStandardError float64
 	// Lower and Upper are the bounds at 1, 2 and 3 standard deviations.
 	Lower, Upper [3]float64
@@ -308,7 +308,7 @@ var (
 // MarshalBinary returns the 8-bit image, for encoding/gob and the like.
 func (s *Sketch) MarshalBinary() ([]byte, error) { return s.Image(Width8) }
 
-// UnmarshalBinary replaces the sketch by that of an image.
+// UnmarshalBinary replaces the sketch by the sketch of an image.
 func (s *Sketch) UnmarshalBinary(image []byte) error {
 	read, err := Read(image)
 	if err == nil {

@@ -59,7 +59,7 @@ export interface Info {
   width: Width;
   stage: Stage;
   isEmpty: boolean;
-  /** Whether registers were merged, so that there is no HIP estimate. */
+  /** Whether registers were merged, so there is no HIP estimate. */
   outOfOrder: boolean;
   /** The number of coupons of a list or a set. */
   coupons: number;
@@ -73,8 +73,8 @@ export interface Info {
 /** A sketch: it counts distinct values. Its memory is freed when it is collected. */
 export class Sketch {
   /**
-   * Makes an empty sketch with 2^lgK registers; lgK is 4 to 21 (12), and the width that of toBytes (8). At 12 the standard error is
-   * 1.6 %. Throws HllError if an argument is out of range.
+   * Makes an empty sketch with 2^lgK registers. lgK is 4 to 21, by default 12, where the standard error is 1.6 %. The width is the
+   * default of toBytes, by default 8. Throws HllError if an argument is out of range.
    */
   constructor(lgK?: number, width?: Width);
   /** Reads an image, which is checked whole. Bytes after it are ignored. Throws HllError if the bytes are not an image. */
@@ -87,7 +87,7 @@ export class Sketch {
   add(value: Value | null | undefined): this;
   /**
    * Adds each value of an iterable, or each number of a typed array: of Float64Array and Float32Array as real numbers, of others as
-   * integers. If a value throws, those before it are added.
+   * integers. If a value throws, the values before it are added.
    */
   addMany(values: Iterable<Value | null | undefined> | ArrayBufferView): this;
   /**
@@ -115,8 +115,8 @@ export class Sketch {
 export class Union {
   /**
    * Makes an empty union. With lgMaxK (4 to 21), sketches of every lg_k are merged, and the union has the smallest of lgMaxK and
-   * the lg_k of sketches with registers. Without it all sketches that are not empty need one lg_k. Without a width the union has that
-   * of the sketches, or 8 if they differ.
+   * the lg_k of sketches with registers. Without it all sketches that are not empty need one lg_k. Without a width the union has
+   * the width of the sketches, or 8 if their widths differ.
    */
   constructor(options?: { lgMaxK?: number; width?: Width });
   /** Merges a sketch, registers or an image. Throws HllError: "other_lg_k", or why the bytes are not an image. */
@@ -134,19 +134,19 @@ export class Union {
 }
 
 /**
- * Registers in a typed array of the program's, one byte for each, so in constant memory. Each call copies them into the module and
+ * Registers in a typed array of the program's, one byte for each, in constant memory. Each call copies them into the module and
  * back.
  */
 export class Registers {
   /** Makes registers that are all 0, of an lg_k of 4 to 21 (12), or uses an array of 2^4 to 2^21 bytes. */
   constructor(of?: number | Uint8Array);
-  /** The registers: the array that was passed, or the one that was made. */
+  /** The registers: the array that was passed, or the array that was made. */
   readonly array: Uint8Array;
   readonly lgK: number;
   add(value: Value | null | undefined): this;
   addMany(values: Iterable<Value | null | undefined> | ArrayBufferView): this;
   /**
-   * Takes the maximum of these registers and those of a sketch, a union, registers or an image, folded to this lg_k. Throws HllError
+   * Takes the maximum of these registers and the registers of the other, folded to this lg_k. Throws HllError
    * "coarser" if the other has fewer registers (fold these first), or why the bytes are not an image.
    */
   merge(other: Sketch | Union | Registers | Bytes): this;

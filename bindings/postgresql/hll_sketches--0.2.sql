@@ -97,13 +97,13 @@ CREATE OPERATOR CLASS hyperloglog_ops DEFAULT FOR TYPE hyperloglog USING hash AS
 
 CREATE FUNCTION hll_fault(image pg_catalog.bytea) RETURNS pg_catalog.text
     AS 'MODULE_PATHNAME', 'hll_pg_fault' LANGUAGE C IMMUTABLE STRICT PARALLEL SAFE COST 50;
-COMMENT ON FUNCTION hll_fault(pg_catalog.bytea) IS 'why bytes are no HLL image, a word; null for an image';
+COMMENT ON FUNCTION hll_fault(pg_catalog.bytea) IS 'a word that says why bytes are not an HLL image; null for an image';
 CREATE FUNCTION hll_is_image(image pg_catalog.bytea) RETURNS pg_catalog.bool
     AS 'MODULE_PATHNAME', 'hll_pg_is_image' LANGUAGE C IMMUTABLE STRICT PARALLEL SAFE COST 50;
 COMMENT ON FUNCTION hll_is_image(pg_catalog.bytea) IS 'whether bytes are an HLL image';
 CREATE FUNCTION hll_first_image(images pg_catalog.bytea) RETURNS pg_catalog.bytea
     AS 'MODULE_PATHNAME', 'hll_pg_first_image' LANGUAGE C IMMUTABLE STRICT PARALLEL SAFE COST 50;
-COMMENT ON FUNCTION hll_first_image(pg_catalog.bytea) IS 'the image with which bytes begin, without what follows it';
+COMMENT ON FUNCTION hll_first_image(pg_catalog.bytea) IS 'the image with which the bytes begin, without the bytes after it';
 -- Stable, as an update of the module changes it.
 CREATE FUNCTION hll_version() RETURNS pg_catalog.text
     AS 'MODULE_PATHNAME', 'hll_pg_version' LANGUAGE C STABLE STRICT PARALLEL SAFE;
@@ -119,11 +119,11 @@ COMMENT ON FUNCTION hll_image_empty(pg_catalog.int8, pg_catalog.int8) IS 'the im
 CREATE FUNCTION hll_info(sketch hyperloglog, OUT lg_k pg_catalog.int4, OUT width pg_catalog.int4, OUT stage pg_catalog.text,
         OUT coupons pg_catalog.int8, OUT zeros pg_catalog.int8)
     AS 'MODULE_PATHNAME', 'hll_pg_info' LANGUAGE C IMMUTABLE STRICT PARALLEL SAFE COST 50;
-COMMENT ON FUNCTION hll_info(hyperloglog) IS 'what is kept of a sketch';
+COMMENT ON FUNCTION hll_info(hyperloglog) IS 'lg_k, width and stage of a sketch, and its number of coupons or of registers that are 0';
 CREATE FUNCTION hll_info(image pg_catalog.bytea, OUT lg_k pg_catalog.int4, OUT width pg_catalog.int4, OUT stage pg_catalog.text,
         OUT coupons pg_catalog.int8, OUT zeros pg_catalog.int8)
     AS 'MODULE_PATHNAME', 'hll_pg_info' LANGUAGE C IMMUTABLE STRICT PARALLEL SAFE COST 50;
-COMMENT ON FUNCTION hll_info(pg_catalog.bytea) IS 'what is kept of a sketch';
+COMMENT ON FUNCTION hll_info(pg_catalog.bytea) IS 'lg_k, width and stage of a sketch, and its number of coupons or of registers that are 0';
 
 CREATE FUNCTION hll_estimate(sketch hyperloglog) RETURNS pg_catalog.float8
     AS 'MODULE_PATHNAME', 'hll_pg_estimate' LANGUAGE C IMMUTABLE STRICT PARALLEL SAFE COST 100;
@@ -186,7 +186,7 @@ CREATE FUNCTION hll_merge(a hyperloglog, b hyperloglog) RETURNS hyperloglog
 COMMENT ON FUNCTION hll_merge(hyperloglog, hyperloglog) IS 'the union of two sketches of one lg_k';
 CREATE FUNCTION hll_merge(a hyperloglog, b hyperloglog, lg_max_k pg_catalog.int8) RETURNS hyperloglog
     AS 'MODULE_PATHNAME', 'hll_pg_merge_sketches' LANGUAGE C IMMUTABLE STRICT PARALLEL SAFE COST 100;
-COMMENT ON FUNCTION hll_merge(hyperloglog, hyperloglog, pg_catalog.int8) IS 'the union of two sketches, of an lg_k at most';
+COMMENT ON FUNCTION hll_merge(hyperloglog, hyperloglog, pg_catalog.int8) IS 'the union of two sketches under a bound of lg_k';
 CREATE FUNCTION hll_agree(a hyperloglog, b hyperloglog) RETURNS pg_catalog.bool
     AS 'MODULE_PATHNAME', 'hll_pg_agree' LANGUAGE C IMMUTABLE STRICT PARALLEL SAFE COST 100;
 COMMENT ON FUNCTION hll_agree(hyperloglog, hyperloglog)
@@ -198,7 +198,7 @@ COMMENT ON FUNCTION hll_merge(pg_catalog.bytea, pg_catalog.bytea) IS 'the union 
 CREATE FUNCTION hll_merge(a pg_catalog.bytea, b pg_catalog.bytea, lg_max_k pg_catalog.int8) RETURNS pg_catalog.bytea
     AS 'MODULE_PATHNAME', 'hll_pg_merge' LANGUAGE C IMMUTABLE STRICT PARALLEL SAFE COST 100;
 COMMENT ON FUNCTION hll_merge(pg_catalog.bytea, pg_catalog.bytea, pg_catalog.int8)
-    IS 'the union of two sketches, of an lg_k at most';
+    IS 'the union of two sketches under a bound of lg_k';
 CREATE FUNCTION hll_agree(a pg_catalog.bytea, b pg_catalog.bytea) RETURNS pg_catalog.bool
     AS 'MODULE_PATHNAME', 'hll_pg_agree' LANGUAGE C IMMUTABLE STRICT PARALLEL SAFE COST 100;
 COMMENT ON FUNCTION hll_agree(pg_catalog.bytea, pg_catalog.bytea)
