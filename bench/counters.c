@@ -92,7 +92,8 @@ int main(int argc, char **argv)
         }
         return 0;
     }
-    printf("| values | counter, ns a value | state, ns a value | counter, bytes allocated | state, bytes allocated |\n|---|---|---|---|---|\n");
+    printf("| values | counter, ns a value | state, ns a value | counter, bytes allocated | state, bytes allocated "
+           "|\n|---|---|---|---|---|\n");
     for (i = 0; i < sizeof numbers / sizeof *numbers; i++) {
         size_t room, room_of_state;
         double counter = timed(count, numbers[i], &room), state = timed(count_in_state, numbers[i], &room_of_state);

@@ -189,12 +189,12 @@ typedef struct hll_info {
 
 /* What a state says. A later version may add members. */
 typedef struct hll_state_summary {
-    uint64_t size;          /* the bytes that the state takes of its room; a copy of these bytes is a copy of the state */
-    uint8_t lg_k;           /* 4 to 21; if it is open: the greatest of the images without values that were merged, or 4 */
-    uint8_t width;          /* of the images that were merged: 4, 6 or 8; 8 if none counts, or if their widths differ */
-    uint8_t stage;          /* HLL_SET for coupons, which may repeat, or HLL_REGISTERS */
-    uint8_t is_empty;       /* 1 if it has no values, else 0 */
-    uint8_t is_open;        /* 1 if its lg_k is open, else 0 */
+    uint64_t size;    /* the bytes that the state takes of its room; a copy of these bytes is a copy of the state */
+    uint8_t lg_k;     /* 4 to 21; if it is open: the greatest of the images without values that were merged, or 4 */
+    uint8_t width;    /* of the images that were merged: 4, 6 or 8; 8 if none counts, or if their widths differ */
+    uint8_t stage;    /* HLL_SET for coupons, which may repeat, or HLL_REGISTERS */
+    uint8_t is_empty; /* 1 if it has no values, else 0 */
+    uint8_t is_open;  /* 1 if its lg_k is open, else 0 */
 } hll_state_summary;
 
 /* counts[v] is the number of registers with the value v. The sum of all counts is 2^lg_k. */

@@ -51,8 +51,8 @@ static void refuse_more(sqlite3_context *context, int argument, size_t more)
     if (argument != 0)
         sqlite3_snprintf(sizeof place, place, " in argument %d", argument);
     answer_error(context, sqlite3_mprintf("invalid HLL image%s: %llu byte%s it (hll_merge merges images, || puts one after "
-                                          "another; hll_first_image cuts off what follows; " FINDING ")", place,
-                                          (sqlite3_uint64)more, more == 1 ? " follows" : "s follow"));
+                                          "another; hll_first_image cuts off what follows; " FINDING ")",
+                                          place, (sqlite3_uint64)more, more == 1 ? " follows" : "s follow"));
 }
 
 /* The error of an argument that is not such a number. The format has its name and optionally the number. */

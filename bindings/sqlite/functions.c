@@ -123,8 +123,7 @@ static void set_estimator_fields(sqlite3_context *context, int n, sqlite3_value 
 
 static bool two_images_in(sqlite3_context *context, sqlite3_value **values, Call *call)
 {
-    return image_in(context, values[0], 1, &call->image) &&
-           image_in(context, values[1], 2, &call->other);
+    return image_in(context, values[0], 1, &call->image) && image_in(context, values[1], 2, &call->other);
 }
 
 /* Merges both images into a new state. `failed` is the number of the rejected image, from 0. */
@@ -411,7 +410,7 @@ int register_functions(sqlite3 *db)
     size_t i;
 
     for (i = 0; i < sizeof entries / sizeof *entries && code == SQLITE_OK; i++)
-        code = sqlite3_create_function_v2(db, entries[i].name, entries[i].n, flags_of(&entries[i]), (void *)&entries[i], call_strict,
-                                          NULL, NULL, NULL);
+        code = sqlite3_create_function_v2(db, entries[i].name, entries[i].n, flags_of(&entries[i]), (void *)&entries[i],
+                                          call_strict, NULL, NULL, NULL);
     return code;
 }

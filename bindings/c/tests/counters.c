@@ -444,8 +444,8 @@ static void test_single_coupons(void)
                   hll_counter_add_coupons(&coupons, &coupon, 1) == HLL_OK && values.room == coupons.room &&
                   values.n_waiting == coupons.n_waiting && values.is_dense == coupons.is_dense;
     }
-    CHECK(is_same, "value %lu: %d values wait and %d coupons, in %zu and %zu bytes", (unsigned long)value,
-          values.n_waiting, coupons.n_waiting, values.room, coupons.room);
+    CHECK(is_same, "value %lu: %d values wait and %d coupons, in %zu and %zu bytes", (unsigned long)value, values.n_waiting,
+          coupons.n_waiting, values.room, coupons.room);
     hll_counter_free(&values);
     hll_counter_free(&coupons);
 }

@@ -291,7 +291,8 @@ static void refuses_values(pair *p)
     memcpy(before.at, p->state, p->room);
     for (by = 0; by < 3; by++)
         CHECK(call_state(p, &v, by, &size) == HLL_ARGUMENT, "call %d added to a state whose lg_k is open", by);
-    CHECK(hll_state_add(p->state, p->room, &size, NULL, 0, NULL, 0) == HLL_ARGUMENT, "no values were added to an open state");
+    CHECK(hll_state_add(p->state, p->room, &size, NULL, 0, NULL, 0) == HLL_ARGUMENT,
+          "no values were added to an open state");
     CHECK(gives(p, 8) && estimates_alike(p), "lg_k %d", p->lg_k);
     CHECK(size == 77 && memcmp(before.at, p->state, p->room) == 0, "an open state changed");
     free(before.at);
@@ -382,7 +383,8 @@ static void refusals(void)
     memset(state, 7, sizeof state);
     memcpy(before, state, sizeof state);
     CHECK(hll_state_new(3, state, sizeof state) == HLL_ARGUMENT && hll_state_new(22, state, sizeof state) == HLL_ARGUMENT, "lg_k");
-    CHECK(hll_state_new(1, state, sizeof state) == HLL_ARGUMENT && hll_state_new(256, state, sizeof state) == HLL_ARGUMENT, "lg_k");
+    CHECK(hll_state_new(1, state, sizeof state) == HLL_ARGUMENT && hll_state_new(256, state, sizeof state) == HLL_ARGUMENT,
+          "lg_k");
     CHECK(hll_state_new(12, state, HLL_STATE_NEW - 1) == HLL_BUFFER, "39 bytes");
     CHECK(hll_state_new(0, state, HLL_STATE_NEW - 1) == HLL_BUFFER, "39 bytes");
     CHECK(hll_state_add_value(state, sizeof state, &size, (const uint8_t *)"a", 1) == HLL_ARGUMENT, "no state");
@@ -394,9 +396,11 @@ static void refusals(void)
     need(hll_state_new(12, state, sizeof state) == HLL_OK, "a new state");
     memcpy(before, state, sizeof state);
     CHECK(hll_state_info(state, 39, &summary, sizeof summary) == HLL_ARGUMENT, "39 bytes");
-    CHECK(hll_state_info(state, sizeof state, &summary, sizeof summary - 1) == HLL_ARGUMENT, "another size of the structure");
+    CHECK(hll_state_info(state, sizeof state, &summary, sizeof summary - 1) == HLL_ARGUMENT,
+          "another size of the structure");
     CHECK(hll_state_info(state, sizeof state, &summary, sizeof summary) == HLL_OK && summary.size == HLL_STATE_NEW &&
-              summary.lg_k == 12 && summary.width == 8 && summary.stage == HLL_SET && summary.is_empty == 1 && summary.is_open == 0,
+              summary.lg_k == 12 && summary.width == 8 && summary.stage == HLL_SET && summary.is_empty == 1 &&
+              summary.is_open == 0,
           "a new state says something else");
     CHECK(hll_state_add(state, sizeof state, &size, (const uint8_t *)"abc", 3, descending, 2) == HLL_ARGUMENT, "ends");
     CHECK(hll_state_add(state, sizeof state, &size, (const uint8_t *)"abc", 3, past, 2) == HLL_ARGUMENT, "ends");
@@ -445,7 +449,8 @@ static void other_versions(void)
         CHECK(hll_state_add_value(state, sizeof state, &size, (const uint8_t *)"a", 1) == HLL_ARGUMENT, "a value, %zu", i);
         CHECK(hll_state_image(state, sizeof state, 8, out, sizeof out, &size) == HLL_ARGUMENT, "an image, %zu", i);
         CHECK(hll_state_estimate(state, sizeof state, &found) == HLL_ARGUMENT, "an estimate, %zu", i);
-        CHECK(hll_state_join_state(0, own, sizeof own, &size, state, sizeof state) == HLL_ARGUMENT, "the other state, %zu", i);
+        CHECK(hll_state_join_state(0, own, sizeof own, &size, state, sizeof state) == HLL_ARGUMENT, "the other state, %zu",
+              i);
         CHECK(hll_state_join_state(0, state, sizeof state, &size, own, sizeof own) == HLL_ARGUMENT, "the state, %zu", i);
         CHECK(size == 77 && memcmp(before, state, sizeof state) == 0, "a state of another version changed, %zu", i);
         memcpy(state, own, 4); /* and with what this version begins with, it is one */

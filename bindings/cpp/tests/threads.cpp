@@ -53,12 +53,13 @@ static void test_size(uint64_t n, bool is_union_of_two)
         union_ sum(12);
         sum.update(given);
         sum.update(other);
-        return given.serialize() == image && given.estimate() == estimate && sketch(given) == given && sum.result(six) == both &&
-               given.lg_k() == 12 && given.is_empty() == (n == 0) && given.serialized_size() == image.size();
+        return given.serialize() == image && given.estimate() == estimate && sketch(given) == given &&
+               sum.result(six) == both && given.lg_k() == 12 && given.is_empty() == (n == 0) &&
+               given.serialized_size() == image.size();
     });
     read_at_once([&] {
-        return all.result(six).serialize() == image_of_all && all.estimate() == estimate_of_all && union_(all).result(six) == whole &&
-               all.is_empty() == (n == 0);
+        return all.result(six).serialize() == image_of_all && all.estimate() == estimate_of_all &&
+               union_(all).result(six) == whole && all.is_empty() == (n == 0);
     });
     CHECK(given.serialize() == image && all.result(six) == whole);
 }
