@@ -1,13 +1,15 @@
 #!/usr/bin/env python3
 # SPDX-License-Identifier: Apache-2.0
 """Makes prebuilt/: assembler text of the proved library and programs, with the prover's verdict, and the library as a WebAssembly
-module (prebuilt/README.md).
+module (prebuilt/README.md). For other systems it makes text of the library that is not committed.
 
     scripts/prebuilt.py            after `rt ci`: makes the text again from what was proved, and compares it with prebuilt/
     scripts/prebuilt.py --prove    the same after proving the library and the programs by `rt lib`
     scripts/prebuilt.py --write    writes prebuilt/ whatever is there
     scripts/prebuilt.py --wasm     makes only hll.wasm again, where its C files have changed, in under a minute: from what an earlier
                                    run on this machine kept of the same proved sources
+    scripts/prebuilt.py --texts    writes only the texts for other systems, from what an earlier run kept; where nothing is kept, it
+                                   proves the library first (`make texts`)
 
 The last line is 'N passed, M failed'. Where a source has changed, prebuilt/ is written again; under CI=true that is a failure,
 as the commit should have had it. Another toolchain than the one that VERDICT names may give other text for the same sources:
@@ -19,6 +21,9 @@ calls the toolchain's own command by the arguments that rt gives it: `rattle che
 
 prebuilt/wasm/hll.wasm is compiled from LLVM's module of the library (scripts/retarget.py), and linked with C files by binaryen.
 Other versions of binaryen may give other bytes: then it is not compared, and a line says so.
+
+The texts for other systems (other_systems.TEXTS) are compiled from that module, too. VERDICT has their checksums, and they are written
+next to the others, but git ignores them: a release has them.
 """
 import dataclasses
 import functools
@@ -34,6 +39,7 @@ from concurrent.futures import ThreadPoolExecutor
 
 sys.dont_write_bytecode = True
 sys.path.insert(0, str(pathlib.Path(__file__).resolve().parent))
+import other_systems  # noqa: E402
 import prover  # noqa: E402
 import retarget  # noqa: E402
 
@@ -96,12 +102,14 @@ class Verdict:
     said: dict
     files: dict
     wasm: str = ""      # how hll.wasm was made: checksum of the C files and scripts, version of binaryen
+    texts: str = ""     # how the texts for other systems were made
+    others: dict = dataclasses.field(default_factory=dict)      # their checksums
 
     def text(self):
         lines = ["prover: %s" % self.prover, "sources: %s" % self.sources]
-        lines += ["wasm: %s" % self.wasm] * (self.wasm != "")
+        lines += ["wasm: %s" % self.wasm] * (self.wasm != "") + ["texts: %s" % self.texts] * (self.texts != "")
         lines += ["%s: %s" % (path, line) for path, said in sorted(self.said.items()) for line in said]
-        lines += ["file: %s  %s" % (self.files[path], path) for path in sorted(self.files)]
+        lines += ["%s: %s  %s" % (kind, sums[path], path) for kind, sums in (("file", self.files), ("text", self.others)) for path in sorted(sums)]
         above = "".join(line + "\n" for line in lines)
         return "%slines above: %s\n" % (above, hashlib.sha256(above.encode()).hexdigest())
 
@@ -113,18 +121,23 @@ def committed():
     found = Verdict("", "", {}, {})
     for line in VERDICT.read_text().splitlines():
         name, _, rest = line.partition(": ")
-        if name in ("prover", "sources", "wasm"):
+        if name in ("prover", "sources", "wasm", "texts"):
             setattr(found, name, rest)
-        elif name == "file":
-            found.files[rest.split()[1]] = rest.split()[0]
+        elif name in ("file", "text"):
+            (found.files if name == "file" else found.others)[rest.split()[1]] = rest.split()[0]
         elif name.endswith(".s"):
             found.said.setdefault(name, []).append(rest)
     return found
 
 
-def asked(word):
-    """Returns what scripts/prebuilt.sh prints for a word: `sum`, `state`, `wasm-sum` or `wasm`."""
-    return subprocess.run([ROOT / "scripts" / "prebuilt.sh", word], capture_output=True, text=True, check=True).stdout.strip()
+def asked(*words):
+    """Returns what scripts/prebuilt.sh prints for words: `sum`, `state`, `wasm-sum`, `wasm`, `texts-sum`, `texts` or `text`."""
+    return subprocess.run([ROOT / "scripts" / "prebuilt.sh", *words], capture_output=True, text=True, check=True).stdout.strip()
+
+
+def are_fresh():
+    """Whether hll.wasm and the checksums of the texts for other systems are made by the scripts and C files as they are."""
+    return asked("wasm") == asked("texts") == "fresh"
 
 
 def sum_of(data):
@@ -198,12 +211,6 @@ SECTION = re.compile(r'^(\s*\.section\s+)"([^"]*)"')
 DATA = re.compile(r"\s*\.(?:file|ident|ascii|asciz|string)\b")
 
 
-def plain_name(name):
-    """Returns a name of letters, digits, `_` and `.`, which every assembler takes: `a.b.c.48f335490f6b880f` for
-    `a::b::c::<#48f335490f6b880f>`. Other names of types, and of traits after a `+`, are kept too."""
-    return re.sub(r"[^\w.]+", "_", re.sub(r"::<#(\w+)>", r".\1", name).replace("::", ".").replace("+", ".")).strip("_")
-
-
 def with_plain_names(text):
     """Returns clang's text with plain names in place of quoted ones, which old versions of GNU's assembler reject in operands."""
     lines = text.splitlines(keepends=True)
@@ -213,7 +220,7 @@ def with_plain_names(text):
     def put(found, group=1):
         name = found[group]
         if name not in plain:
-            plain[name] = plain_name(name)
+            plain[name] = other_systems.plain_name(name)
         return plain[name]
 
     made = []
@@ -275,6 +282,82 @@ def kit():
     return prover.answer("rt", "version")
 
 
+def clang_of(rtlib):
+    return pathlib.Path(rtlib.KIT, "toolchain", "bin", "clang")
+
+
+# ---- texts for other systems
+
+
+def other_path(name):
+    """Returns the path in prebuilt/ of the text for another system."""
+    return "%s/libhll_c.s" % name
+
+
+def texts_line():
+    """Returns what VERDICT says of the texts for other systems."""
+    return "proved for x86-64, compiled from the same module for other systems; sources %s" % asked("texts-sum")
+
+
+def made_texts(rtlib):
+    """Compiles the texts for other systems from LLVM's modules of the library, at the same time. Returns their bytes by their
+    paths."""
+    clang = clang_of(rtlib)
+    text = retarget.text_of(clang, module_for(X86))
+    retarget.test_same(text, retarget.text_of(clang, module_for(ARM)))
+
+    def one(name):
+        return other_path(name), other_systems.text_for(clang, text, other_systems.TEXTS[name]).encode()
+
+    with ThreadPoolExecutor(len(other_systems.TEXTS)) as runs:
+        return dict(runs.map(one, other_systems.TEXTS))
+
+
+def put_texts(rtlib, verdict):
+    """Makes the texts for other systems, and adds their checksums to the verdict. Returns their bytes by their paths."""
+    others = made_texts(rtlib)
+    verdict.texts, verdict.others = texts_line(), {path: sum_of(data) for path, data in others.items()}
+    return others
+
+
+def write_texts(others):
+    """Writes the texts for other systems of which VERDICT has the checksum."""
+    wanted = committed().others
+    for path, data in others.items():
+        if wanted.get(path) == sum_of(data):
+            (PREBUILT / path).parent.mkdir(parents=True, exist_ok=True)
+            (PREBUILT / path).write_bytes(data)
+
+
+def prove_modules(rtlib):
+    """Proves the library, and keeps LLVM's modules of it."""
+    for library in LIBRARIES:
+        lib(library)
+    for target in (X86, ARM):
+        print("proving hll_c for %s" % target, flush=True)
+        made(rtlib, Text("libhll_c", "hll_c", target), min(os.cpu_count() or 1, 4))
+
+
+def texts_again():
+    """Makes the texts for other systems, and writes them, with VERDICT if what makes them has changed. Returns counts."""
+    verdict, rtlib = committed(), toolchain()
+    if kit() != verdict.prover or asked("sum") != verdict.sources:
+        print("failed: prebuilt/ was made by %s from other sources, or by another toolchain: run scripts/prebuilt.py" % verdict.prover)
+        return 0, 1
+    if not is_kept(verdict):
+        prove_modules(rtlib)
+    was_fresh, old = asked("texts") == "fresh", verdict.others
+    others = put_texts(rtlib, verdict)
+    if not was_fresh:
+        VERDICT.write_text(verdict.text())
+        print("prebuilt/VERDICT has the checksums of the texts. Commit it")
+    write_texts(others)
+    failed = [path for path in others if was_fresh and old.get(path) != verdict.others[path]]
+    for path in failed:
+        print("failed: the text %s is not the one of which VERDICT has the checksum" % path)
+    return len(others) - len(failed), len(failed)
+
+
 # ---- the module for JavaScript
 
 
@@ -295,8 +378,7 @@ def made_wasm(rtlib):
     """Compiles and links the module for JavaScript from LLVM's modules of the library, and returns its bytes."""
     with tempfile.TemporaryDirectory() as room:
         room = pathlib.Path(room)
-        clang = pathlib.Path(rtlib.KIT, "toolchain", "bin", "clang")
-        retarget.retarget(clang, module_for(X86), module_for(ARM), room / "proved.o")
+        retarget.retarget(clang_of(rtlib), module_for(X86), module_for(ARM), room / "proved.o")
         ran = subprocess.run(["sh", LINK, room / "proved.o", rtlib.KIT, room / "hll.wasm"], stdout=subprocess.PIPE,
                              stderr=subprocess.STDOUT, text=True, errors="replace")
         if ran.returncode:
@@ -319,11 +401,16 @@ def put_wasm(rtlib, verdict, texts):
     verdict.wasm, verdict.files[WASM] = line, sum_of(texts[WASM])
 
 
+def is_kept(verdict):
+    """Whether LLVM's modules are kept of the sources of a verdict, by this toolchain."""
+    kept = [module_for(target).with_suffix(".sources") for target in (X86, ARM)]
+    return kit() == verdict.prover and asked("sum") == verdict.sources and all(file.is_file() and file.read_text() == verdict.sources for file in kept)
+
+
 def link_again():
     """Makes hll.wasm again from the modules that are kept, and writes it with VERDICT. Returns counts."""
     verdict = committed()
-    kept = [module_for(target).with_suffix(".sources") for target in (X86, ARM)]
-    if kit() != verdict.prover or asked("sum") != verdict.sources or any(not file.is_file() or file.read_text() != verdict.sources for file in kept):
+    if not is_kept(verdict):
         print("failed: nothing is kept of these sources by %s: run scripts/prebuilt.py" % verdict.prover)
         return 0, 1
     data = made_wasm(toolchain())
@@ -335,7 +422,7 @@ def link_again():
 
 
 def make_all():
-    """Makes every file. Returns a verdict, and the files' bytes by their paths."""
+    """Makes every file. Returns a verdict, the files' bytes by their paths, and those of the texts for other systems."""
     rtlib = toolchain()
     at_once = next((count for count in (len(TEXTS), 3, 2) if rtlib.fits(*[NEED] * count)), 1)
     jobs = max(1, min((os.cpu_count() or 1) // at_once, 4))
@@ -345,7 +432,7 @@ def make_all():
     files = {path: sum_of(data) for path, data in texts.items()}
     verdict = Verdict(kit(), asked("sum"), {text.path: said for text, (_, said) in found.items()}, files)
     put_wasm(rtlib, verdict, texts)
-    return verdict, texts
+    return verdict, texts, put_texts(rtlib, verdict)
 
 
 def lib(crate):
@@ -373,6 +460,7 @@ def difference(verdict, texts):
     """Returns what differs between prebuilt/ and what was made: names of files."""
     found = [path for path, data in texts.items() if not (PREBUILT / path).is_file() or (PREBUILT / path).read_bytes() != data]
     found += [path for path in committed().files if path not in texts]
+    found += [path for path in {**committed().others, **verdict.others} if committed().others.get(path) != verdict.others.get(path)]
     return found + ["VERDICT"] * (VERDICT.read_text() != verdict.text())
 
 
@@ -382,7 +470,7 @@ def compare(verdict, texts):
     old = committed()
     if differing == ["VERDICT"] and old.prover != verdict.prover and asked("state") == "fresh":
         print("prebuilt/ was made by %s, and %s gives the same text" % (old.prover, verdict.prover))
-        return len(texts), 0
+        return len(texts) + len(verdict.others), 0
     if differing and old.prover != verdict.prover and asked("state") == "fresh":
         print("not compared: prebuilt/ was made by %s, and this is %s, which gives other text for %s" % (
             old.prover, verdict.prover, " ".join(differing)))
@@ -390,20 +478,25 @@ def compare(verdict, texts):
         return 1, 0     # the checksums of prebuilt/
     for path in differing:
         print("failed: prebuilt/%s is not what the sources give. To write it again: scripts/prebuilt.py --write" % path)
-    return len(texts) + 1 - len(differing), len(differing)
+    total = len(texts) + len(verdict.others) + 1
+    return total - len(differing), len(differing)
 
 
-def settle(verdict, texts, is_forced):
-    """Compares prebuilt/ with what was made, or writes it where a source has changed. Returns counts."""
-    old = committed()
-    if old and old.sources == verdict.sources and asked("wasm") == "fresh" and not is_forced:
-        return compare(verdict, texts)
+def settle(verdict, texts, others, is_forced):
+    """Compares prebuilt/ with what was made, or writes it where a source has changed, and writes the texts for other systems. Returns
+    counts."""
+    old, total = committed(), len(texts) + len(others) + 1
+    if old and old.sources == verdict.sources and are_fresh() and not is_forced:
+        counts = compare(verdict, texts)
+        write_texts(others)
+        return counts
     write(verdict, texts)
+    write_texts(others)
     if is_forced:
         print("prebuilt/ is written")
-        return len(texts) + 1, 0
+        return total, 0
     print("prebuilt/ was made from other sources. It is written again now: commit it with the sources")
-    return (0, 1) if os.environ.get("CI") == "true" else (len(texts) + 1, 0)
+    return (0, 1) if os.environ.get("CI") == "true" else (total, 0)
 
 
 def go_on_without_text(why):
@@ -425,8 +518,10 @@ def main():
     if "--prove" in sys.argv[1:]:
         for library in LIBRARIES:
             lib(library)
+    alone = {"--wasm": link_again, "--texts": texts_again}
     try:
-        passed, failed = link_again() if "--wasm" in sys.argv[1:] else settle(*make_all(), "--write" in sys.argv[1:])
+        words = [word for word in sys.argv[1:] if word in alone]
+        passed, failed = alone[words[0]]() if words else settle(*make_all(), "--write" in sys.argv[1:])
     except Exception as why:    # of the toolchain's own code, whatever it is
         passed, failed = go_on_without_text(why)
     print("%d passed, %d failed" % (passed, failed))

@@ -21,10 +21,12 @@ import unit_tests  # noqa: E402
 SCRIPT = prebuilt.ROOT / "scripts" / "prebuilt.sh"
 OWN, OTHER = "kit-1 logic a", "kit-2 logic a"
 PATHS = [text.path for text in prebuilt.TEXTS] + [prebuilt.WASM]
+OTHERS = [prebuilt.other_path(name) for name in prebuilt.other_systems.TEXTS]
+TOTAL = len(PATHS) + len(OTHERS) + 1
 
 
-def texts_of(version):
-    return {path: b"# %s %s\n" % (path.encode(), version.encode()) for path in PATHS}
+def texts_of(version, paths=PATHS):
+    return {path: b"# %s %s\n" % (path.encode(), version.encode()) for path in paths}
 
 
 class PrebuiltTest(unittest.TestCase):
@@ -41,7 +43,8 @@ class PrebuiltTest(unittest.TestCase):
                 (self.root / "crates" / name / part / "a").write_text(name)
         others = self.root / "crates" / "hll_c" / "out"
         others.mkdir()
-        (self.root / "scripts" / "retarget.py").write_text("pass\n")
+        for name in ("retarget.py", "other_systems.py"):
+            (self.root / "scripts" / name).write_text("pass\n")
         for name in ("c", "javascript/wasm"):
             (self.root / "bindings" / name).mkdir(parents=True)
         for name in ("c/hll.h", "c/counter.c", "c/estimate.c", "c/optional.c", "c/state.c", "javascript/wasm/calls.c", "javascript/wasm/build.sh", "javascript/wasm/lower.py"):
@@ -63,14 +66,14 @@ class PrebuiltTest(unittest.TestCase):
         prebuilt.write(self.verdict(prover, version), texts_of(version))
 
     def verdict(self, prover, version, said="logic=proved functions=2"):
-        texts = texts_of(version)
-        return prebuilt.Verdict(prover, prebuilt.asked("sum"), {path: [said] for path in PATHS},
-                                {path: prebuilt.sum_of(text) for path, text in texts.items()}, prebuilt.wasm_line())
+        files, others = ({path: prebuilt.sum_of(text) for path, text in texts_of(version, paths).items()} for paths in (PATHS, OTHERS))
+        return prebuilt.Verdict(prover, prebuilt.asked("sum"), {path: [said] for path in PATHS}, files, prebuilt.wasm_line(),
+                                prebuilt.texts_line(), others)
 
     def run_main(self, prover, version, *words, ci="", said="logic=proved functions=2"):
         """Runs the script where this toolchain is here and gives these texts, or is unknown (version None); returns the exit
         status, the last line, and all that was printed."""
-        made = [(self.verdict(prover, version, said), texts_of(version))] if version else prebuilt.Unknown("new words")
+        made = [(self.verdict(prover, version, said), texts_of(version), texts_of(version, OTHERS))] if version else prebuilt.Unknown("new words")
         with unittest.mock.patch.object(prebuilt, "make_all", side_effect=made), \
                 unittest.mock.patch.object(prebuilt, "kit", return_value=prover), \
                 unittest.mock.patch.object(prebuilt, "lib", side_effect=lambda _: (self.others / "libhll_c.a").write_text("a")), \
@@ -87,20 +90,20 @@ class PrebuiltTest(unittest.TestCase):
 
     def test_the_same(self):
         self.assertEqual(prebuilt.asked("state"), "fresh")
-        self.assertEqual(self.run_main(OWN, "1", ci="true")[:2], (0, "%d passed, 0 failed" % (len(PATHS) + 1)))
+        self.assertEqual(self.run_main(OWN, "1", ci="true")[:2], (0, "%d passed, 0 failed" % TOTAL))
 
     def test_a_changed_text(self):
         self.change("prebuilt/x86_64/hll_estimator_fields.s", "hll_estimator_fields", "hll_worts")
         self.assertEqual(prebuilt.asked("state"), "damaged")
         status, last, said = self.run_main(OWN, "1")
-        self.assertEqual((status, last), (1, "%d passed, 1 failed" % len(PATHS)))
+        self.assertEqual((status, last), (1, "%d passed, 1 failed" % (TOTAL - 1)))
         self.assertIn("failed: prebuilt/x86_64/hll_estimator_fields.s", said)
 
     def test_a_changed_text_whose_checksums_were_changed_too(self):
         prebuilt.write(self.verdict(OWN, "2"), texts_of("2"))
         self.assertEqual(prebuilt.asked("state"), "fresh")
         status, last, _ = self.run_main(OWN, "1")
-        self.assertEqual((status, last), (1, "0 passed, %d failed" % (len(PATHS) + 1)))
+        self.assertEqual((status, last), (1, "0 passed, %d failed" % TOTAL))
 
     def test_a_missing_text(self):
         (self.root / "prebuilt" / PATHS[0]).unlink()
@@ -141,7 +144,7 @@ class PrebuiltTest(unittest.TestCase):
 
     def test_another_toolchain_with_the_same_text(self):
         status, last, said = self.run_main(OTHER, "1")
-        self.assertEqual((status, last), (0, "%d passed, 0 failed" % len(PATHS)))
+        self.assertEqual((status, last), (0, "%d passed, 0 failed" % (TOTAL - 1)))
         self.assertIn("kit-2 logic a gives the same text", said)
 
     def test_an_unknown_toolchain(self):
@@ -217,6 +220,55 @@ class PrebuiltTest(unittest.TestCase):
         self.assertEqual((self.root / "prebuilt" / prebuilt.WASM).read_bytes(), b"again")
         self.change("crates/hll_c/src/a", "hll_c", "other")
         self.assertEqual((run(), prebuilt.asked("state")), (1, "stale"))
+
+    def text_state(self, path):
+        return prebuilt.asked("text", path.partition("/")[0])
+
+    def test_texts_for_other_systems(self):
+        self.assertEqual([self.text_state(path) for path in OTHERS], ["none"] * len(OTHERS))
+        self.assertEqual(self.run_main(OWN, "1", ci="true")[0], 0)
+        self.assertEqual([self.text_state(path) for path in OTHERS], ["fresh"] * len(OTHERS))
+        (self.root / "prebuilt" / OTHERS[0]).write_bytes(b"of another commit")
+        self.assertEqual([self.text_state(path) for path in OTHERS], ["stale"] + ["fresh"] * (len(OTHERS) - 1))
+        self.assertEqual((prebuilt.asked("state"), prebuilt.asked("texts")), ("fresh", "fresh"))
+
+    def test_a_text_for_another_system_that_differs(self):
+        """Its checksum in VERDICT is compared, and a text that doesn't fit VERDICT is not written."""
+        verdict = self.verdict(OWN, "1")
+        verdict.others[OTHERS[1]] = "0" * 64
+        prebuilt.write(verdict, texts_of("1"))
+        status, last, said = self.run_main(OWN, "1")
+        self.assertEqual((status, last), (1, "%d passed, 2 failed" % (TOTAL - 2)))
+        self.assertIn("failed: prebuilt/%s is not what" % OTHERS[1], said)
+        self.assertEqual([self.text_state(path) for path in OTHERS[:2]], ["fresh", "none"])
+
+    def test_what_the_texts_for_other_systems_are_made_from(self):
+        self.assertEqual(prebuilt.asked("texts"), "fresh")
+        self.change("scripts/other_systems.py", "pass", "1")
+        self.assertEqual((prebuilt.asked("texts"), self.run_main(OWN, "1", ci="true")[0]), ("stale", 1))
+        self.assertEqual((prebuilt.asked("texts"), self.run_main(OWN, "1", ci="true")[0]), ("fresh", 0))
+        (self.root / "bindings/c/state.c").write_text("hll_status proved_hll_new(int x);\n")
+        self.assertEqual(prebuilt.asked("texts"), "stale")
+
+    def texts_alone(self, version, prover=OWN):
+        with unittest.mock.patch.object(prebuilt, "made_texts", return_value=texts_of(version, OTHERS)), \
+                unittest.mock.patch.object(prebuilt, "prove_modules") as proving, \
+                unittest.mock.patch.object(prebuilt, "toolchain", return_value=None):
+            return self.run_main(prover, "1", "--texts")[0], proving.called
+
+    def test_the_texts_for_other_systems_alone(self):
+        self.assertEqual(self.texts_alone("1"), (0, True))
+        self.assertEqual(self.text_state(OTHERS[0]), "fresh")
+        for target in (prebuilt.X86, prebuilt.ARM):
+            (self.root / "module").write_text("module")
+            prebuilt.keep_module(self.root / "module", target)
+        self.assertEqual(self.texts_alone("1"), (0, False))
+        self.assertEqual(self.texts_alone("2"), (1, False))
+        self.assertEqual(self.texts_alone("1", OTHER), (1, False))
+        self.change("scripts/other_systems.py", "pass", "1")
+        self.assertEqual((self.texts_alone("2"), self.text_state(OTHERS[0]), prebuilt.asked("texts")), ((0, False), "fresh", "fresh"))
+        self.change("crates/hll_c/src/a", "hll_c", "other")
+        self.assertEqual(self.texts_alone("2"), (1, False))
 
     def test_no_text_yet(self):
         shutil.rmtree(self.root / "prebuilt")
