@@ -8,6 +8,8 @@
 #   make uninstall, uninstall-postgresql
 #   make prove              proves the library and the programs, and compares what comes out with prebuilt/. It needs the command
 #                           rt, and takes 10 to 25 minutes on four processors
+#   make texts              makes the texts for Windows, macOS and RISC-V, which a checkout has not (prebuilt/README.md). It needs the
+#                           command rt, and takes a minute or two after ./check proofs or make prove, and else as long as make prove
 #   make dist               makes all packages of a release in dist/ (docs/INSTALL.md)
 #   make html               makes these pages as a site in dist/html. It needs pandoc
 #   make page               makes dist/hll.html, a page that opens images in a browser. It needs Python
@@ -21,19 +23,22 @@
 PG_CONFIG ?= pg_config
 CC ?= cc
 
+MACHINE := $(shell $(CC) -dumpmachine)
 ifeq ($(shell $(CC) -include sqlite3ext.h -fsyntax-only -x c /dev/null 2>/dev/null && echo yes),yes)
-SQLITE := bindings/sqlite
+SQLITE := $(if $(findstring linux,$(MACHINE)),bindings/sqlite)
 endif
 ifneq ($(wildcard $(addsuffix /postgres.h,$(shell $(PG_CONFIG) --includedir-server 2>/dev/null))),)
 POSTGRESQL := bindings/postgresql
 endif
+# The programs are for Linux on x86-64 and 64-bit ARM, and the extension for SQLite is for Linux.
+PROGRAMS := $(if $(and $(findstring linux,$(MACHINE)),$(filter x86_64-% aarch64-%,$(MACHINE))),programs)
 # In this order, so that the last lines of `make install` are those of the C library: what is left to do.
-PARTS := programs $(SQLITE) bindings/c
+PARTS := $(PROGRAMS) $(SQLITE) bindings/c
 # Asked once for all parts, unless a source has changed: then the first part proves, and the next one asks again.
 STATE := $(filter fresh,$(shell scripts/prebuilt.sh state))
 FOUND := $(STATE:%=STATE=%)
 
-.PHONY: all install uninstall install-postgresql uninstall-postgresql prove dist html page check clean
+.PHONY: all install uninstall install-postgresql uninstall-postgresql prove texts dist html page check clean
 
 all clean:
 	set -e; for part in $(PARTS) $(POSTGRESQL); do $(MAKE) -C $$part $@ $(FOUND); done
@@ -49,6 +54,9 @@ uninstall-postgresql:
 
 prove:
 	python3 scripts/prebuilt.py --prove
+
+texts:
+	python3 scripts/prebuilt.py --texts
 
 dist:
 	python3 packaging/dist.py

@@ -9,6 +9,12 @@ NO_RT := a proved source has changed since prebuilt/ was made, and the command r
 AGAIN := a proved source has changed since prebuilt/ was made, so it is proved again, which takes minutes
 DAMAGED := a file of prebuilt/ is not as it was made. To get it back: git checkout prebuilt
 NO_TEXT := prebuilt/ has no text for this processor, only for $(notdir $(wildcard $(TOP)/prebuilt/*64))
+# The text for another system than Linux on x86-64 and 64-bit ARM is not in a checkout.
+FOLDER := $(notdir $(patsubst %/,%,$(dir $(firstword $(TEXT)))))
+OTHER := $(if $(findstring -,$(FOLDER)),$(FOLDER))
+OTHER_STATE := $(if $(OTHER),$(shell $(TOP)/scripts/prebuilt.sh text $(OTHER)))
+NO_OTHER := a checkout has no text for $(OTHER). The source package of a release has it; and where the command rt is, make texts makes it
+STALE_OTHER := prebuilt/$(OTHER)/libhll_c.s is not the text that prebuilt/VERDICT names, but of another commit. Take all files from one source package
 
 ifeq ($(STATE),stale)
 .PHONY: proved-again
@@ -22,6 +28,11 @@ else ifneq ($(STATE),fresh)
 damaged:
 	@echo 'make: $(DAMAGED)' >&2; exit 1
 $(TEXT): damaged ;
+else ifneq ($(filter none stale,$(OTHER_STATE)),)
+.PHONY: no-text
+no-text:
+	@echo 'make: $(if $(filter none,$(OTHER_STATE)),$(NO_OTHER),$(STALE_OTHER))' >&2; exit 1
+$(TEXT): no-text ;
 else ifneq ($(words $(wildcard $(TEXT))),$(words $(TEXT)))
 .PHONY: no-text
 no-text:

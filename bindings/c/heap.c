@@ -12,8 +12,16 @@ typedef struct tried {
     void *memory;
 } tried;
 
-tried rattle_alloc(size_t size, size_t align);
-tried rattle_realloc(void *memory, size_t kept, size_t size, size_t align);
+/* The proved code takes both from two registers. A C function returns them so in each calling convention but the one of Windows for
+ * x86-64, where they come through a pointer. There the proved code calls these two functions by the convention of System V. */
+#if defined(_WIN32) && defined(__x86_64__)
+#define IN_REGISTERS __attribute__((sysv_abi))
+#else
+#define IN_REGISTERS
+#endif
+
+IN_REGISTERS tried rattle_alloc(size_t size, size_t align);
+IN_REGISTERS tried rattle_realloc(void *memory, size_t kept, size_t size, size_t align);
 void rattle_dealloc(void *memory);
 
 static tried answer(void *memory)
@@ -26,12 +34,12 @@ static tried answer(void *memory)
 }
 
 /* No type of the library needs a larger alignment than 16 bytes, which malloc guarantees. */
-tried rattle_alloc(size_t size, size_t align)
+IN_REGISTERS tried rattle_alloc(size_t size, size_t align)
 {
     return answer(malloc(size != 0 ? size : align));
 }
 
-tried rattle_realloc(void *memory, size_t kept, size_t size, size_t align)
+IN_REGISTERS tried rattle_realloc(void *memory, size_t kept, size_t size, size_t align)
 {
     (void)kept;
     return answer(realloc(memory, size != 0 ? size : align));

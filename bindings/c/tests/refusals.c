@@ -6,8 +6,10 @@
 void *__real_malloc(size_t size);
 void *__real_calloc(size_t count, size_t size);
 void *__real_realloc(void *old, size_t size);
+#ifndef _WIN32 /* which lacks these two */
 void *__real_aligned_alloc(size_t alignment, size_t size);
 int __real_posix_memalign(void **made, size_t alignment, size_t size);
+#endif
 void __real_free(void *old);
 
 /* How many requests are still granted before one is refused; none is where it is below 0. */
@@ -47,6 +49,7 @@ void *__wrap_realloc(void *old, size_t size)
     return made;
 }
 
+#ifndef _WIN32
 void *__wrap_aligned_alloc(size_t alignment, size_t size)
 {
     return is_refused() ? NULL : taken(__real_aligned_alloc(alignment, size));
@@ -58,6 +61,7 @@ int __wrap_posix_memalign(void **made, size_t alignment, size_t size)
     held += status == 0;
     return status;
 }
+#endif
 
 void __wrap_free(void *old)
 {
@@ -270,6 +274,7 @@ int main(void)
     static const size_t values[] = {0, 5, 8, 100, 380, 20000};
     unsigned width;
     size_t i;
+    held = 0; /* without what the C library took before */
     memset(unchanged, 0xa5, sizeof unchanged);
     for (width = 4; width <= 8; width += 2)
         for (i = 0; i < 6; i++) {
