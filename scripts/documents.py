@@ -362,7 +362,7 @@ def parts_of_check():
     """The options of ./check, and its parts."""
     text = (ROOT / "check").read_text()
     named = filter(str.islower, re.findall(r"\w+", re.search(r"^OTHERS=\((.*)\)$", text, re.M)[1]))
-    parts = {"proofs", "crates", "bindings", *named, *(path.parent.name for path in ROOT.glob("bindings/*/check"))}
+    parts = {"proofs", "targets", "crates", "bindings", *named, *(path.parent.name for path in ROOT.glob("bindings/*/check"))}
     return set(re.findall(r"^ +(--[\w-]+)\)", text, re.M)), parts
 
 
