@@ -7,6 +7,8 @@ from ._signals import end_at_once
 
 def main() -> int:
     """Runs the command, and returns its status."""
+    if sys.platform == "win32":
+        sys.exit("hll: this command is for Linux and macOS; on Windows use hll_sketches from Python")
     end_at_once()
     from . import cli
 

@@ -215,15 +215,24 @@ def _is_in_checkout(package: pathlib.Path) -> bool:
     return is_so_named and (python / "setup.py").is_file() and (bindings / "c" / "Makefile").is_file()
 
 
+_NAMES = {"win32": ("hll.dll",), "darwin": ("libhll.dylib", "libhll.0.dylib")}
+"""The names of the library, by system; elsewhere they are those of Linux."""
+
+
+def _names() -> Sequence[str]:
+    return _NAMES.get(sys.platform, ("libhll.so", "libhll.so.0"))
+
+
 def _places() -> List[str]:
     """Returns the places where the library may be, in the order in which they are tried."""
     named = os.environ.get("HLL_SKETCHES_LIBRARY")
     if named:
         return [named]
     package = pathlib.Path(__file__).resolve().parent
-    near = [package / "libhll.so", package / "libhll.so.0"]
+    names = _names()
+    near = [package / name for name in names]
     if _is_in_checkout(package):
-        near.insert(0, package.parent.parent / "c" / "build" / "libhll.so")
+        near.insert(0, package.parent.parent / "c" / "build" / names[0])
     found = [str(place) for place in near if place.exists()]
     if not found:
         from ctypes.util import find_library
@@ -300,7 +309,7 @@ def _load() -> Dict[str, Call]:
     places = _places()
     if not places:
         raise ImportError(
-            "the shared library libhll.so is not here: build it by `make` in a checkout (which needs"
+            f"the shared library {_names()[0]} is not here: build it by `make` in a checkout (which needs"
             " a C compiler), or install it, or name it in the environment variable"
             " HLL_SKETCHES_LIBRARY"
         )

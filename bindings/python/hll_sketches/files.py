@@ -4,7 +4,6 @@ from __future__ import annotations
 
 import ctypes
 import errno
-import fcntl
 import os
 import re
 import stat
@@ -21,6 +20,9 @@ from ._names import shown
 from ._signals import ENDING, held_back
 from .layout import ARCHIVE, size_of
 
+if sys.platform != "win32":
+    import fcntl
+
 T = TypeVar("T")
 Read = Callable[[int], bytes]
 
@@ -35,6 +37,8 @@ class FoundName(str):
 
 PIECE = 1 << 16
 STEP = 4000
+OWN = getattr(os, "O_CLOEXEC", 0) | getattr(os, "O_BINARY", 0)
+"""Flags of every file that is opened: programs that are started don't get it, and Windows changes no byte."""
 """The most bytes of a path that the system accepts at once."""
 
 MOST_LINKS = 40
@@ -156,7 +160,7 @@ def _opened_in_steps(path: str, flags: int) -> int:
 
 def opened(path: str, flags: int) -> int:
     """Opens a file, even if its path is longer than the system accepts at once."""
-    flags |= os.O_CLOEXEC
+    flags |= OWN
     try:
         return os.open(path, flags)
     except OSError as error:
@@ -376,7 +380,8 @@ def _keep_owner_and_mode(place: int, before: os.stat_result) -> None:
     elif made.st_gid != before.st_gid:
         with suppress(PermissionError):
             os.fchown(place, -1, before.st_gid)
-    os.fchmod(place, stat.S_IMODE(before.st_mode) & ~(stat.S_ISUID | stat.S_ISGID))
+    if sys.platform != "win32":
+        os.fchmod(place, stat.S_IMODE(before.st_mode) & ~(stat.S_ISUID | stat.S_ISGID))
 
 
 def _fill(place: int, data: Data, before: Optional[os.stat_result], sync: int) -> None:
@@ -457,7 +462,7 @@ def _replace_by_name(
 ) -> None:
     """Writes a file under another name first. Signals are delayed until it is written."""
     with _temporary(path) as temporary:
-        place = os.open(temporary, os.O_WRONLY | os.O_CREAT | os.O_EXCL | os.O_CLOEXEC, 0o666)
+        place = os.open(temporary, os.O_WRONLY | os.O_CREAT | os.O_EXCL | OWN, 0o666)
         try:
             _fill(place, data, before, sync)
         finally:
@@ -466,7 +471,10 @@ def _replace_by_name(
 
 
 def sync_folder(folder: str) -> None:
-    """Syncs the names in a directory to disk, if the directory can be read and its file system supports that."""
+    """Syncs the names in a directory to disk, if the directory can be read and its file system supports that.
+    Windows opens no directory."""
+    if sys.platform == "win32":
+        return
     try:
         place = os.open(folder, os.O_RDONLY | os.O_DIRECTORY | os.O_CLOEXEC)
     except PermissionError:
@@ -495,7 +503,7 @@ def _replace(
 
 def _write_into(path: str, data: Data) -> None:
     """Writes into a pipe or a device."""
-    place = os.open(path, os.O_WRONLY | os.O_CLOEXEC)
+    place = os.open(path, os.O_WRONLY | OWN)
     try:
         if stat.S_ISREG(os.fstat(place).st_mode):
             raise OSError(errno.EINVAL, "It became a plain file meanwhile")
@@ -743,6 +751,8 @@ def _is_named(place: int, path: str) -> bool:
 def _lock(place: int, name: str, still_waiting: Optional[Callable[[str], None]]) -> None:
     """Locks an open file. Others may hold the lock for as long as they like, and need only be able to
     read the file."""
+    if sys.platform == "win32":
+        raise OSError(errno.ENOSYS, "Files are not locked on Windows")
     end = time.monotonic() + PATIENCE
     while time.monotonic() < end:
         try:

@@ -7,7 +7,7 @@ import os
 import stat
 from typing import Callable, Iterable, Iterator, List, Optional, Tuple
 
-from .files import PIECE, STANDARD, UNUSABLE, FoundName, Trouble, opened, unusable
+from .files import OWN, PIECE, STANDARD, UNUSABLE, FoundName, Trouble, opened, unusable
 
 LONGEST_NAME = 1 << 20
 """The most bytes of a name in a list."""
@@ -24,7 +24,7 @@ _KINDS = {
     stat.S_IFBLK: "a device",
 }
 
-_FLAGS = os.O_RDONLY | os.O_DIRECTORY | os.O_CLOEXEC
+_FLAGS = os.O_RDONLY | getattr(os, "O_DIRECTORY", 0)
 
 Tell = Callable[[Trouble], None]
 
@@ -93,7 +93,7 @@ class _Walk:
             place = opened(path, _FLAGS)
         else:
             self._return()
-            place = os.open(name, _FLAGS | os.O_NOFOLLOW, dir_fd=self._place)
+            place = os.open(name, _FLAGS | os.O_NOFOLLOW | OWN, dir_fd=self._place)
         try:
             folder = _Folder(path, place)
         except BaseException:
@@ -113,7 +113,7 @@ class _Walk:
         while self._place is not None and self._level > len(self._above):
             steps = min(self._level - len(self._above), MOST_STEPS)
             try:
-                above = os.open("/".join([".."] * steps), _FLAGS, dir_fd=self._place)
+                above = os.open("/".join([".."] * steps), _FLAGS | OWN, dir_fd=self._place)
             except OSError:
                 self.close()
                 break
