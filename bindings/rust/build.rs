@@ -3,8 +3,8 @@
 //!
 //! Environment: HLL_SYSTEM=1 takes the installed library, as the feature `system` does. CC, LD, OBJCOPY, AR and CFLAGS are read
 //! as the crate `cc` reads them: first with the target in the name (CC_aarch64_unknown_linux_gnu), then TARGET_CC or HOST_CC,
-//! then CC. When another processor is built for, the plain names are not read, and the defaults are the tools of its cross
-//! compiler. PKG_CONFIG names pkg-config.
+//! then CC. When another processor or system is built for, the plain names are not read, and the defaults are the tools of its
+//! cross compiler. PKG_CONFIG names pkg-config.
 //!
 //! Where there is no text for a system, the crate is built without a library, and its calls panic with a message.
 
@@ -61,16 +61,19 @@ fn pkg_config(question: &str) -> Outcome<String> {
 // ---- a library of its own
 
 fn build_static() -> Outcome {
-    if !has_text()? {
-        println!("cargo:rustc-cfg=hll_missing");
-        println!(
-            "cargo:warning=there is no libhll for this system, only for Linux on x86_64 and aarch64: calls will panic"
-        );
-        return Ok(());
-    }
+    let text = match text()? {
+        Some(text) => text,
+        None => {
+            println!("cargo:rustc-cfg=hll_missing");
+            println!(
+                "cargo:warning=there is no libhll for this system here, only for {}: calls will panic",
+                texts()?.join(", ")
+            );
+            return Ok(());
+        }
+    };
     println!("cargo:rustc-cfg=hll_versioned");
     let out = PathBuf::from(env::var_os("OUT_DIR").ok_or("OUT_DIR is not set")?);
-    let text = folder("prebuilt", "../../prebuilt")?.join(processor()?).join("libhll_c.s");
     let c = folder("c", "../c")?;
     println!("cargo:rerun-if-changed={}", c.display());
     println!("cargo:rerun-if-changed={}", text.display());
@@ -82,7 +85,12 @@ fn build_static() -> Outcome {
     }
     rename_wrapped_calls(&proved, &c)?;
     objects.push(proved);
-    archive(&join(&objects, &c, &out)?, &out)?;
+    if is_windows()? {
+        rename_all(&objects, &c)?;
+    } else {
+        objects = vec![join(&objects, &c, &out)?];
+    }
+    archive(&objects, &out)?;
     println!("cargo:rustc-link-search=native={}", out.display());
     println!("cargo:rustc-link-lib=static=hll");
     Ok(())
@@ -99,14 +107,44 @@ fn processor() -> Outcome<String> {
     Ok(env::var("CARGO_CFG_TARGET_ARCH")?)
 }
 
-/// Whether prebuilt/ has the text of the proved library for the target.
-fn has_text() -> Outcome<bool> {
-    let is_linux = env::var("CARGO_CFG_TARGET_OS")? == "linux";
-    Ok(is_linux && matches!(processor()?.as_str(), "x86_64" | "aarch64"))
+fn is_windows() -> Outcome<bool> {
+    Ok(env::var("CARGO_CFG_TARGET_OS")? == "windows")
+}
+
+/// The text of the proved library for the target, if prebuilt/ has it.
+fn text() -> Outcome<Option<PathBuf>> {
+    let (system, environment) =
+        (env::var("CARGO_CFG_TARGET_OS")?, env::var("CARGO_CFG_TARGET_ENV").unwrap_or_default());
+    let place = match (system.as_str(), processor()?.as_str(), environment.as_str()) {
+        ("linux", "x86_64" | "aarch64", _) => processor()?,
+        ("linux", "riscv64", _) => "riscv64-linux-gnu".to_string(),
+        ("windows", "x86_64", "gnu") => "x86_64-windows-gnu".to_string(),
+        _ => return Ok(None),
+    };
+    Ok(Some(folder("prebuilt", "../../prebuilt")?.join(place).join("libhll_c.s")).filter(|text| text.is_file()))
+}
+
+/// The systems for which prebuilt/ has texts.
+fn texts() -> Outcome<Vec<String>> {
+    let mut found = Vec::new();
+    for entry in fs::read_dir(folder("prebuilt", "../../prebuilt")?)? {
+        let entry = entry?;
+        if entry.path().join("libhll_c.s").is_file() {
+            found.push(entry.file_name().to_string_lossy().replace("86_64", "86-64"));
+        }
+    }
+    found.sort();
+    Ok(found)
 }
 
 fn is_cross() -> Outcome<bool> {
-    Ok(env::var("HOST")?.split('-').next() != env::var("TARGET")?.split('-').next())
+    let kind = |triple: String| (triple.split('-').next().map(str::to_string), triple.contains("windows"));
+    Ok(kind(env::var("HOST")?) != kind(env::var("TARGET")?))
+}
+
+/// How the names of a cross compiler's tools begin.
+fn cross() -> Outcome<String> {
+    Ok(if is_windows()? { format!("{}-w64-mingw32-", processor()?) } else { format!("{}-linux-gnu-", processor()?) })
 }
 
 /// What the environment says of a tool or of flags for the target.
@@ -128,8 +166,8 @@ fn from_environment(variable: &str) -> Outcome<Option<String>> {
 fn tool(variable: &str, default: &str) -> Outcome<Command> {
     let default = match (is_cross()?, default) {
         (false, _) => default.to_string(),
-        (true, "cc") => format!("{}-linux-gnu-gcc", processor()?),
-        (true, _) => format!("{}-linux-gnu-{default}", processor()?),
+        (true, "cc") => cross()? + "gcc",
+        (true, _) => cross()? + default,
     };
     let line = from_environment(variable)?.unwrap_or(default);
     let mut words = line.split_whitespace();
@@ -164,30 +202,53 @@ fn rename_wrapped_calls(object: &Path, c: &Path) -> Outcome {
     run(command.arg(object))
 }
 
+/// The calls of hll.map.
+fn calls(c: &Path) -> Outcome<Vec<String>> {
+    let map = fs::read_to_string(c.join("hll.map"))?;
+    let names = map.lines().filter_map(|line| line.trim().strip_suffix(';')).filter(|name| name.starts_with("hll_"));
+    Ok(names.map(str::to_string).collect())
+}
+
+/// A name with MINOR in it, as src/libhll.rs has those of calls.
+fn versioned(name: &str) -> String {
+    let (major, minor) = (env!("CARGO_PKG_VERSION_MAJOR"), env!("CARGO_PKG_VERSION_MINOR"));
+    format!("hll_{major}_{minor}_{}", name.strip_prefix("hll_").unwrap_or(name))
+}
+
+/// Puts MINOR into all names that the objects share. On Windows they stay objects of their own, as one object of all would spoil
+/// what the stack is unwound by.
+fn rename_all(objects: &[PathBuf], c: &Path) -> Outcome {
+    let calls = calls(c)?;
+    let proved = calls.iter().map(|name| format!("proved_{name}"));
+    let heap = ["rattle_alloc", "rattle_realloc", "rattle_dealloc"].iter().map(|name| name.to_string());
+    let names: Vec<_> = calls.iter().cloned().chain(proved).chain(heap).collect();
+    let renamed: Vec<_> = names.iter().map(|name| format!("--redefine-sym={name}={}", versioned(name))).collect();
+    for object in objects {
+        run(tool("OBJCOPY", "objcopy")?.args(&renamed).arg(object))?;
+    }
+    Ok(())
+}
+
 /// Makes one object, in which all names but the calls of hll.map are local. The calls get MINOR into their names, as
 /// src/libhll.rs has them.
 fn join(objects: &[PathBuf], c: &Path, out: &Path) -> Outcome<PathBuf> {
-    let (joined, calls) = (out.join("hll.o"), out.join("calls"));
-    let map = fs::read_to_string(c.join("hll.map"))?;
-    let names = map.lines().filter_map(|line| line.trim().strip_suffix(';')).filter(|name| name.starts_with("hll_"));
-    let names: Vec<_> = names.collect();
-    fs::write(&calls, names.join("\n"))?;
+    let (joined, kept, names) = (out.join("hll.o"), out.join("calls"), calls(c)?);
+    fs::write(&kept, names.join("\n"))?;
     let mut link = tool("LD", "ld")?;
     if processor()? == "x86_64" {
         link.args(["-z", "x86-64-v2"]); // the loader refuses the program on older processors, which lack instructions
     }
     run(link.arg("-r").arg("-o").arg(&joined).args(objects))?;
-    run(tool("OBJCOPY", "objcopy")?.arg(format!("--keep-global-symbols={}", calls.display())).arg(&joined))?;
-    let (major, minor) = (env!("CARGO_PKG_VERSION_MAJOR"), env!("CARGO_PKG_VERSION_MINOR"));
-    let renamed = names.iter().map(|name| format!("--redefine-sym={name}=hll_{major}_{minor}_{}", &name[4..]));
+    run(tool("OBJCOPY", "objcopy")?.arg(format!("--keep-global-symbols={}", kept.display())).arg(&joined))?;
+    let renamed = names.iter().map(|name| format!("--redefine-sym={name}={}", versioned(name)));
     run(tool("OBJCOPY", "objcopy")?.args(renamed).arg(&joined))?;
     Ok(joined)
 }
 
-fn archive(object: &Path, out: &Path) -> Outcome {
+fn archive(objects: &[PathBuf], out: &Path) -> Outcome {
     let library = out.join("libhll.a");
     if library.exists() {
         fs::remove_file(&library)?;
     }
-    run(tool("AR", "ar")?.arg("rcsD").arg(&library).arg(object))
+    run(tool("AR", "ar")?.arg("rcsD").arg(&library).args(objects))
 }
