@@ -1,7 +1,8 @@
 #!/usr/bin/env python3
 # SPDX-License-Identifier: Apache-2.0
-"""Makes all packages of a release in dist/: a source package, Debian packages, wheels, a package for npm, the page that opens images,
-the prover's verdict, META.json, TRUST.md, a bill of materials of each, and SHA256SUMS. `make dist` calls it, in a checkout of git.
+"""Makes all packages of a release in dist/: a source package, Debian packages, wheels, static programs, a package for npm, the page that opens images,
+the prover's verdict, META.json, TRUST.md, TRIED, a bill of materials of each, and SHA256SUMS. `make dist` calls it, in a checkout
+of git. The texts for other systems go into the source package, and wheels are built from them, if `make texts` has made them.
 
 Everything is built from prebuilt/, by a C compiler, binutils, Python and Debian's tools, in a folder of its own without the
 command rt on the path. So what the gate tests is what is shipped. Two runs over one commit give the same bytes, wherever they
@@ -29,13 +30,13 @@ import prebuilt  # noqa: E402
 import rows  # noqa: E402
 import sbom  # noqa: E402
 import trust  # noqa: E402
+import wheels  # noqa: E402
 
 NAME = "hll-sketches"
 SYSTEM_PATH = "/usr/sbin:/usr/bin:/sbin:/bin"
 PYTHON = "/usr/bin/python3"
 # what a release needs besides the build dependencies of debian/control.in
-NEEDED = {"binutils", "build-essential", "dpkg-dev", "gcc", "gcc-aarch64-linux-gnu", "git", "libc6-dev-arm64-cross", "make", "python3-pip",
-          "python3-wheel"}
+NEEDED = {"binutils", "build-essential", "dpkg-dev", "gcc", "git", "make", "python3-pip", "python3-wheel"}
 
 
 class Failed(Exception):
@@ -76,7 +77,20 @@ def needed_packages():
     """The packages of Debian that a release needs."""
     field = re.search(r"^Build-Depends:(.*\n(?: .*\n)*)", control_template(), re.M)[1]
     names = re.findall(r"(?:^|,)\s*([a-z0-9.+-]+)", field)
-    return NEEDED | {"debhelper" if name == "debhelper-compat" else name for name in names}     # compat: provided by debhelper
+    names = {"debhelper" if name == "debhelper-compat" else name for name in names}     # compat: provided by debhelper
+    return NEEDED | names | {name for wheel in wheels_here() for name in wheel.needs}
+
+
+@functools.lru_cache(None)
+def texts_here():
+    """The paths in prebuilt/ of the texts for other systems, where all are here."""
+    states = {name: prebuilt.asked("text", name) for name in prebuilt.other_systems.TEXTS}
+    return [prebuilt.other_path(name) for name in states] if set(states.values()) == {"fresh"} else []
+
+
+def wheels_here():
+    """The wheels that can be built here."""
+    return [wheel for wheel in wheels.WHEELS if wheel.is_in_checkout or texts_here()]
 
 
 def missing_packages():
@@ -99,6 +113,8 @@ def test_tree():
         raise Failed("prebuilt/ is %s: run ./check proofs, and commit what it writes" % prebuilt.asked("state"))
     if output("git", "status", "--porcelain", "--untracked-files=no"):
         print("dist: files differ from the commit, so what is made here is not to be published")
+    if not texts_here():
+        print("dist: the texts for other systems are not here, or not those of prebuilt/VERDICT, so nothing is made for Windows, macOS and RISC-V: make texts")
 
 
 # ---- sources
@@ -125,12 +141,17 @@ def control():
         return pathlib.Path(room, "debian", "control").read_text()
 
 
-def put_sources(dist):
-    """The source package: all files of the checkout, META.json, debian/changelog and debian/control."""
+def files_of_sources():
+    """All files of the checkout, the walks, which a script makes, and the texts for other systems: bytes by their names."""
     files = {name: (ROOT / name).read_bytes() for name in output("git", "ls-files", "-z").split("\0") if name and (ROOT / name).is_file()}
-    files.update((str(path.relative_to(ROOT)), path.read_bytes()) for path in rows.texts())     # the walks, which a script makes
-    files.update({"META.json": meta().encode(), "debian/changelog": changelog().encode(), "debian/control": control().encode()})
-    top = "%s-%s/" % (NAME, version())
+    files.update((str(path.relative_to(ROOT)), path.read_bytes()) for path in rows.texts())
+    files.update(("prebuilt/" + path, (prebuilt.PREBUILT / path).read_bytes()) for path in texts_here())
+    return files
+
+
+def put_sources(dist, more):
+    """The source package, with more files than those of the sources, and META.json."""
+    files, top = {**files_of_sources(), **more}, "%s-%s/" % (NAME, version())
     put_tar(dist / (top[:-1] + ".tar.gz"), {top + name: data for name, data in files.items()}, {top + name for name in files if os.access(ROOT / name, os.X_OK)})
     (dist / "META.json").write_text(meta())
 
@@ -154,17 +175,38 @@ def put_debian(dist, room):
         shutil.copyfile(package, dist / package.name)
 
 
-def put_wheel(dist, room, target):
-    """A wheel for a processor, from the source package."""
+def put_wheel(dist, room, wheel):
+    """A wheel for a system, from the source package. Returns the name of its file."""
     tree = unpacked(dist, room)
-    is_other = target.partition("-")[0] != os.uname().machine
-    run(["make", "-s", "-C", "bindings/c", "all", "CFLAGS=-O2"] + ["TARGET=" + target] * is_other, tree)
-    library = tree / "bindings" / "c" / "build" / (target if is_other else "") / "libhll.so"
+    run(["make", "-s", "-C", "bindings/c", "CFLAGS=-O2", *(word.replace("@TREE@", str(tree)) for word in wheel.words or ["all"])], tree)
+    library = tree / "bindings" / "c" / wheel.library
     run([PYTHON, "-B", "scripts/links.py", "--installed", "bindings/python"], tree)      # the README describes the wheel, alone
     run([PYTHON, "-m", "pip", "wheel", "-q", "--no-build-isolation", "--no-deps", "--no-index", "--no-cache-dir", "-w", room / "wheels",
-         tree / "bindings" / "python"], tree, LIBHLL=str(library), PYTHONDONTWRITEBYTECODE="1")
-    for wheel in (room / "wheels").iterdir():
-        shutil.copyfile(wheel, dist / wheel.name)
+         tree / "bindings" / "python"], tree, LIBHLL=str(library), HLL_TRIED=wheel.tried, PYTHONDONTWRITEBYTECODE="1")
+    (file,) = (room / "wheels").iterdir()
+    shutil.copyfile(file, dist / file.name)
+    return file.name
+
+
+def put_wheels(dist, room, wanted):
+    """These wheels, and TRIED, which says where each was tried."""
+    made = [(wheel, put_wheel(dist, room / ("wheel-%d" % at), wheel)) for at, wheel in enumerate(wanted)]
+    (dist / "TRIED").write_text("".join("%s: for %s. %s\n" % (file, wheel.name, wheel.tried) for wheel, file in made))
+
+
+def static_name():
+    return "%s-%s-static-x86_64.tar.gz" % (NAME, version())
+
+
+def put_static(dist, room):
+    """The programs as static ones, which run on every Linux, with musl as their C library; from the source package."""
+    tree = unpacked(dist, room)
+    run(["make", "-s", "-C", "programs", "CC=musl-gcc", "CFLAGS=-O2", "HARDENED=", "LDFLAGS=-static -s"], tree)
+    pages = [tree / "LICENSE", tree / "NOTICE", *(tree / "man" / (name + ".1") for name in prebuilt.PROGRAMS)]
+    files = {file.name: file.read_bytes() for file in [*pages, *(tree / "bin" / name for name in prebuilt.PROGRAMS)]}
+    files["LICENSE.musl"] = pathlib.Path("/usr/share/doc/musl-dev/copyright").read_bytes()
+    top = static_name()[:-len(".tar.gz")] + "/"
+    put_tar(dist / static_name(), {top + name: data for name, data in files.items()}, {top + name for name in prebuilt.PROGRAMS})
 
 
 def put_tar(file, files, executable=()):
@@ -201,10 +243,10 @@ def make():
         dist = room / "dist"
         dist.mkdir()
         shutil.copyfile(prebuilt.VERDICT, dist / "VERDICT")
-        put_sources(dist)
+        put_sources(dist, {"META.json": meta().encode(), "debian/changelog": changelog().encode(), "debian/control": control().encode()})
         put_debian(dist, room / "debian")
-        for target in (prebuilt.X86, prebuilt.ARM):
-            put_wheel(dist, room / target, target)
+        put_wheels(dist, room, wheels_here())
+        put_static(dist, room / "static")
         put_javascript(dist, room / "javascript")
         (dist / "TRUST.md").write_text(trust.table() + "\n")
         sbom.put(dist, version(), epoch())

@@ -4,15 +4,18 @@ import hashlib
 import json
 import re
 import subprocess
+import tarfile
 import time
 import uuid
 
 import prebuilt
+import wheels
 
 LICENCE = "Apache-2.0"
 KINDS = {".deb": "INSTALL", ".whl": "LIBRARY", ".gz": "SOURCE", ".tgz": "LIBRARY", ".html": "APPLICATION"}
 # The Rattle crate hex, a port of Rust's, which both programs contain, and functions of the toolchain's own libraries.
 HEX = ("hex", "0.4.3", "MIT OR Apache-2.0", "the crate that decodes and encodes digits, as the toolchain ports it")
+MUSL = ("musl", "1.2.3", "MIT", "the C library in the static programs")
 RUNTIME = ("rattle-runtime", "NOASSERTION", "NOASSERTION", "functions of the toolchain's libraries core and std_alloc, for which it shows no licence (NOTICE)")
 
 
@@ -48,14 +51,30 @@ def of_file(name, file, version, **more):
     return part(name, version, checksums=summed(file), packageFileName=file.name, **more)
 
 
+def is_static(package):
+    """Whether a package has the static programs."""
+    return "-static-" in package.name
+
+
+def texts_of(package):
+    """The texts for other systems that a source package has, with their checksums."""
+    others = prebuilt.committed().others
+    with tarfile.open(package) as tar:
+        names = {name.partition("/prebuilt/")[2] for name in tar.getnames()}
+    return {path: others[path] for path in others if path in names}
+
+
 def texts_in(package):
     """The paths in prebuilt/ of the texts that a package holds, or what was built from them."""
+    if is_static(package):
+        return ["x86_64/%s.s" % name for name in prebuilt.PROGRAMS]
     if package.suffix == ".gz":
-        return sorted(prebuilt.committed().files)
+        return sorted({**prebuilt.committed().files, **texts_of(package)})
     if package.suffix in (".tgz", ".html"):
         return [prebuilt.WASM]
     if package.suffix == ".whl":
-        return [re.search("x86_64|aarch64", package.name)[0] + "/libhll_c.s"]
+        (wheel,) = (one for one in wheels.WHEELS if re.search("-%s[.]" % one.tag, package.name))
+        return [wheel.text + "/libhll_c.s"]
     if package.name.startswith("hll-sketches_"):
         return ["x86_64/hll_merge.s", "x86_64/hll_estimator_fields.s"]
     return [] if package.name.endswith("_all.deb") else ["x86_64/libhll_c.s"]
@@ -66,11 +85,21 @@ def contents(package):
     verdict = prebuilt.committed()
     texts = texts_in(package)
     for path in texts:
-        checksums = [{"algorithm": "SHA256", "checksumValue": verdict.files[path]}]
-        comment = verdict.wasm if path == prebuilt.WASM else "proved: " + verdict.said[path][-1]
+        checksums = [{"algorithm": "SHA256", "checksumValue": {**verdict.files, **verdict.others}[path]}]
+        comment = verdict.wasm if path == prebuilt.WASM else verdict.texts if path in verdict.others else "proved: " + verdict.said[path][-1]
         yield part("prebuilt-" + path.replace("/", "-"), verdict.sources[:12], checksums=checksums, comment=comment)
-    others = [RUNTIME] * bool(texts) + [HEX] * any("hll_merge" in path or "hll_estimator_fields" in path for path in texts)
+    others = [MUSL] * is_static(package) + [RUNTIME] * bool(texts) + [HEX] * any("hll_merge" in path or "hll_estimator_fields" in path for path in texts)
     yield from (part(name, version, licence, comment=comment) for name, version, licence, comment in others)
+
+
+COMPILERS = {"aarch64": "aarch64-linux-gnu-gcc", "riscv64": "riscv64-linux-gnu-gcc", "win_amd64": "x86_64-w64-mingw32-gcc", "macosx": "clang"}
+
+
+def compiler_of(package):
+    """The C compiler that built it."""
+    if is_static(package) or "musllinux" in package.name:
+        return "musl-gcc"
+    return next((compiler for word, compiler in COMPILERS.items() if word in package.name), "gcc")
 
 
 def tools(package):
@@ -80,7 +109,7 @@ def tools(package):
     if package.suffix in (".tgz", ".html"):
         yield part("binaryen", prebuilt.committed().wasm.rpartition(" ")[2], comment="lowers the module to a 32-bit memory, and optimizes it")
     python = ["/usr/bin/python3", "-c", "import sys, importlib; print(importlib.import_module(sys.argv[1]).__version__)"]
-    asked = {"aarch64-linux-gnu-gcc" if "aarch64" in package.name else "gcc": ["-dumpfullversion"], "as": ["--version"], "ld": ["--version"]}
+    asked = {compiler_of(package): ["-dumpversion"], "as": ["--version"], "ld": ["--version"]}
     asked = {name: [name, *words] for name, words in asked.items() if not package.name.endswith("_all.deb")}
     if package.suffix == ".deb":
         asked["dpkg-buildpackage"] = ["dpkg-buildpackage", "--version"]
@@ -89,6 +118,12 @@ def tools(package):
     if package.suffix in (".deb", ".whl"):
         for name, words in asked.items():
             yield part(name, first_line(*words) or "NOASSERTION", "NOASSERTION")
+
+
+def needed_c_library(wheel):
+    """The C library of Linux that a wheel needs, by its tag, and the version."""
+    found = re.search(r"(many|musl)linux_(\d+)_(\d+)", wheel.name)
+    return ("musl" if found[1] == "musl" else "glibc", ">= %s.%s" % found.group(2, 3)) if found else ("glibc", "NOASSERTION")
 
 
 def needed_by(file):
@@ -100,7 +135,8 @@ def needed_by(file):
             yield name.partition(":")[0], version.strip("()") or "NOASSERTION"
     elif file.suffix == ".whl":
         yield "python3", ">= 3.9"
-        yield "glibc", ">= %s.%s" % tuple(re.search(r"manylinux_(\d+)_(\d+)", file.name).groups()) if "manylinux" in file.name else "NOASSERTION"
+        if "linux" in file.name:
+            yield needed_c_library(file)
 
 
 def related(file):
@@ -122,7 +158,7 @@ def relation(left, kind, right):
 
 def document(file, version, epoch):
     """The bill of one package."""
-    root = of_file(file.name, file, version, primaryPackagePurpose=KINDS.get(file.suffix, "APPLICATION"))
+    root = of_file(file.name, file, version, primaryPackagePurpose="APPLICATION" if is_static(file) else KINDS.get(file.suffix, "APPLICATION"))
     own = root["SPDXID"] = "SPDXRef-Package"
     parts, relations = [root], [relation("SPDXRef-DOCUMENT", "DESCRIBES", own)]
     for one, kind, is_of_package in related(file):
