@@ -9,9 +9,9 @@ class Wheel:
 
     name: str       # in messages
     tag: str        # a pattern of the platform's tag
-    words: tuple    # for `make` in bindings/c; @TREE@ is the folder of the sources
+    words: tuple    # for `make` in bindings/c; @TREE@ is the directory of the sources
     library: str    # what `make` builds, in bindings/c
-    text: str       # the folder of prebuilt/ with its text
+    text: str       # the directory of prebuilt/ with its text
     needs: tuple    # packages of Debian that build it
     magic: bytes    # how its library begins, from byte 0 on
     machine: tuple  # the place of two bytes of the library that name its processor, and these

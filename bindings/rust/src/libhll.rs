@@ -41,7 +41,7 @@ macro_rules! calls {
         #[allow(clippy::too_many_arguments)]
         unsafe fn $name($(_: $type),*) -> $result {
             panic!(
-                "hll-sketches has no library for {} on {} in its folder prebuilt: install libhll there, and set \
+                "hll-sketches has no library for {} on {} in its directory prebuilt: install libhll there, and set \
                  HLL_SYSTEM=1 when the crate is built",
                 std::env::consts::OS,
                 std::env::consts::ARCH
