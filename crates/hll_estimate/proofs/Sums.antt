@@ -12,6 +12,24 @@ pub rho_next : (t j y : ℕ) → j < t → rho_of (t - j) y ≡ y + 2 * rho_of (
 unfolding rho_of
 rho_next t j y lt = let e : t - j ≡ suc (t - (j + 1)) = omega arith in rw e
 
+-- terms of 0
+square_zero : square_of 0 ≡ 0
+unfolding square_of
+square_zero = omega arith
+
+rho_zero : (n : ℕ) → rho_of n 0 ≡ 0
+unfolding rho_of
+rho_zero zero = omega arith
+rho_zero (suc n) = let r = rho_zero n in rw (square_zero, r) (omega arith)
+
+-- what is left adds nothing
+pub rho_ends : (n s w y whole : ℕ) → y ≡ 0 → s + w * rho_of n y ≡ whole → s ≡ whole
+rho_ends n s w y whole is e =
+    let r = rho_zero n in
+    let at_zero : s + w * rho_of n 0 ≡ whole = rw is at e in
+    let none : s + w * 0 ≡ whole = rw r at at_zero in
+    omega (arith, none)
+
 -- one more term
 pub one_more : (s w y v r whole : ℕ) → s + w * v ≡ whole → v ≡ y + 2 * r → s + y * w + 2 * w * r ≡ whole
 one_more s w y v r whole e is = let f : s + w * (y + 2 * r) ≡ whole = rw is at e in omega (arith, f)

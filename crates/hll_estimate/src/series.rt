@@ -24,6 +24,10 @@ fn rho(part: u128, terms: u8) -> u128
     let mut sum = 0;
     let mut power = part;
     for j in 0..terms {
+        // (then all terms that are left are 0)
+        if power == 0 {
+            return sum;
+        }
         sum += power << j;
         power = square(power);
     }

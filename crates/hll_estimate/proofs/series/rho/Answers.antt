@@ -1,9 +1,9 @@
 -- SPDX-License-Identifier: Apache-2.0
-use Rattle.std.proofs.Common.{◌≡◌, ℕ, ◌+◌, ◌*◌, ◌%◌, ◌^◌, ◌≤◌, ◌∙◌, arith}
+use Rattle.std.proofs.Common.{◌≡◌, ℕ, ◌+◌, ◌-◌, ◌*◌, ◌%◌, ◌^◌, ◌≤◌, ◌∙◌, arith}
 use Rattle.std.proofs.Math.Nat.{mul-le-mul_right}
 use Rattle.std.proofs.Math.Pow.{pow_mono}
 use Rattle.std.proofs.lemmas.Nat.{pow-add, shl_whole}
-use Rattle.hll_estimate.proofs.Sums.{rho_none, rho_next, one_more}
+use Rattle.hll_estimate.proofs.Sums.{rho_none, rho_next, rho_ends, one_more}
 use Rattle.hll_estimate.proofs.series.rho.Goals as goal
 
 pub loop-j-preserved : goal.loop-j-preserved
@@ -25,4 +25,13 @@ returns-clause-value c =
 pub returns-clause-small : goal.returns-clause-small
 returns-clause-small c =
     let p : 2 ^ c.loop-j.j ≤ 2 ^ 28 = pow_mono (let most : c.loop-j.j ≤ 28 = omega (arith, c.requires.terms, c.loop-j.auto.j-end) in most) in
+    omega (arith, c.loop-j.invariant.2, p)
+
+pub returns-then-power-eq0-clause-value : goal.returns-then-power-eq0-clause-value
+returns-then-power-eq0-clause-value c =
+    rho_ends (c.args.terms - c.loop-j.j) c.loop-j.sum (2 ^ c.loop-j.j) c.loop-j.power _ c.if-power-eq0.true c.loop-j.invariant.1
+
+pub returns-then-power-eq0-clause-small : goal.returns-then-power-eq0-clause-small
+returns-then-power-eq0-clause-small c =
+    let p : 2 ^ c.loop-j.j ≤ 2 ^ 28 = pow_mono (let most : c.loop-j.j ≤ 28 = omega (arith, c.requires.terms, c.loop-j-test.true) in most) in
     omega (arith, c.loop-j.invariant.2, p)
