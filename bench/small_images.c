@@ -64,6 +64,37 @@ static void convert(size_t i)
     need(hll_image_convert(images[i], lens[i], 4, out, sizeof out, &size) == HLL_OK, "convert");
 }
 
+static void fold(size_t i)
+{
+    size_t size;
+    need(hll_image_fold(images[i], lens[i], lg_k - 1u, out, sizeof out, &size) == HLL_OK, "fold");
+}
+
+static void add(size_t i)
+{
+    static const uint8_t value[8];
+    size_t size, end = sizeof value;
+    need(hll_image_add(images[i], lens[i], value, sizeof value, &end, 1, out, sizeof out, &size) == HLL_OK, "add");
+}
+
+static void add_coupon(size_t i)
+{
+    size_t size;
+    need(hll_image_add_coupon(images[i], lens[i], 5, 2, out, sizeof out, &size) == HLL_OK, "add_coupon");
+}
+
+static void set_fields(size_t i)
+{
+    size_t size;
+    need(hll_image_set_estimator_fields(images[i], lens[i], out, sizeof out, &size) == HLL_OK, "set_estimator_fields");
+}
+
+static void clear_fields(size_t i)
+{
+    size_t size;
+    need(hll_image_clear_estimator_fields(images[i], lens[i], out, sizeof out, &size) == HLL_OK, "clear_estimator_fields");
+}
+
 static void merge(size_t i)
 {
     size_t size, failed, j = i + 1 < count ? i + 1 : 0;
@@ -142,7 +173,10 @@ int main(int argc, char **argv)
                  {"hll_estimate", estimate, 0},       {"hll_image_histogram", histogram, 0},
                  {"hll_image_convert", convert, 0},   {"hll_image_merge", merge, 0},
                  {"hll_images_agree", agree, 0},      {"hll_state_join", join, 0},
-                 {"hll_registers_merge", merge_into_registers, 0}, {"hll_images_unionv", unionv, 1}};
+                 {"hll_registers_merge", merge_into_registers, 0}, {"hll_images_unionv", unionv, 1},
+                 {"hll_image_fold", fold, 0},         {"hll_image_add", add, 0},
+                 {"hll_image_add_coupon", add_coupon, 0}, {"hll_image_set_estimator_fields", set_fields, 0},
+                 {"hll_image_clear_estimator_fields", clear_fields, 0}};
     size_t i;
     need(argc == 2, "a file of images is needed");
     read_file(argv[1]);

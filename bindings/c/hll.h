@@ -224,8 +224,7 @@ uint32_t hll_version(void);
 
 /* Reports what an image says about its sketch. info_size is sizeof *info. If it is not the size in this version of the
  * library, the caller was compiled for another version, and the call returns HLL_ARGUMENT.
- * Returns HLL_OK, 1 to 11, HLL_ARGUMENT or HLL_MEMORY. Allocates a table for coupons, except for a compact image of at most 128
- * distinct coupons, or of more coupons that ascend; and a map for the exceptions of 4-bit registers. */
+ * Returns HLL_OK, 1 to 11, HLL_ARGUMENT or HLL_MEMORY. Allocates as hll_image_check does. */
 hll_status hll_image_info(const uint8_t *image, size_t len, hll_info *info, size_t info_size);
 
 /* Checks whether the bytes begin with an image.
@@ -242,7 +241,7 @@ hll_status hll_image_size(const uint8_t *bytes, size_t len, size_t *size);
 /* Counts the registers with each value, at the lg_k of the image. The coupons of a list or a set are folded to that lg_k, so
  * the call takes the time of 2^lg_k registers however small the image is.
  * Returns HLL_OK, 1 to 11, or HLL_MEMORY. Allocates 2^lg_k bytes, a map for the exceptions of 4-bit registers, and for
- * coupons what hll_image_info does. */
+ * coupons what hll_image_check does. */
 hll_status hll_image_histogram(const uint8_t *image, size_t len, hll_histogram *histogram);
 
 /* ---- making an image ---- */

@@ -236,7 +236,8 @@ static void test_image(bytes image)
     }
 }
 
-/* Sets of few coupons, in a table that their header says is large. No call here makes that table, so none needs memory for it. */
+/* Sets of few coupons, in a table that their header says is large. No call here makes that table, so none needs memory for it.
+ * Those that write an image need memory for the image alone. */
 static void test_few_in_a_large_table(void)
 {
     static const uint8_t none[] = {3, 1, 7, 21, 18, 8, 0, 9, 0, 0, 0, 0};
@@ -249,13 +250,14 @@ static void test_few_in_a_large_table(void)
     } sets[] = {{none, sizeof none, HLL_OK}, {one, sizeof one, HLL_OK}, {twice, sizeof twice, HLL_COUPON}};
     static uint8_t registers[1 << 12];
     uint8_t state[HLL_STATE_NEW + 16], lg_k;
-    size_t size, number;
+    size_t size, number, i;
     hll_info info;
     hll_estimation found;
     for (number = 0; number < 3; number++) {
         const uint8_t *at = sets[number].at;
         size_t len = sets[number].len;
         hll_status status = sets[number].status;
+        static writes *const from_bytes[] = {call_fold, call_convert, call_words, call_no_words};
         need(hll_state_new(21, state, sizeof state) == HLL_OK, "a new state");
         granted = 0;
         CHECK(hll_image_check(at, len) == status, "check, set %zu", number);
@@ -264,6 +266,10 @@ static void test_few_in_a_large_table(void)
         CHECK(hll_state_join(0, state, sizeof state, &size, at, len) == status, "join, set %zu", number);
         CHECK(hll_image_info(at, len, &info, sizeof info) == status, "info, set %zu", number);
         CHECK(hll_estimate(at, len, &found) == status, "estimate, set %zu", number);
+        for (i = 0; i < sizeof from_bytes / sizeof *from_bytes; i++) {
+            granted = 1;
+            CHECK(from_bytes[i](at, len, out, sizeof out, &size) == status, "one request, for the image: call %zu, set %zu", i, number);
+        }
         granted = -1;
     }
     CHECK(held == 0, "%ld", held);

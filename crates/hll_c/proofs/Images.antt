@@ -6,20 +6,23 @@ use Rattle.hll_base.specs.declared.error.Reason.{Reason}
 use Rattle.hll_base.specs.declared.error.Reason.TheVariants.{Argument, Memory}
 use Rattle.hll_base.specs.declared.hll_type.HllType.{HllType}
 use Rattle.hll_coupons.specs.Hashed.{coupon_of_bytes}
+use Rattle.hll_coupons.specs.Pair.{pair, set_of}
 use Rattle.hll_sketch.specs.Checks.{first_failing, header_checks, checks_after, first_fault, size_fault}
-use Rattle.hll_sketch.specs.CouponImages.{IsImageOfUnion, AreBothRead, IsImageWith}
-use Rattle.hll_sketch.specs.Folding.{IsFoldLgK}
+use Rattle.hll_sketch.specs.CouponImages.{IsImageOfUnion, AreBothRead, IsImageWith, IsFoldedImage}
+use Rattle.hll_sketch.specs.Adding.{add}
+use Rattle.hll_sketch.specs.Folding.{folded, IsFoldLgK}
 use Rattle.hll_sketch.specs.Image.{IsReadAs}
 use Rattle.hll_sketch.specs.Refusal.{IsRefusal}
 use Rattle.hll_sketch.specs.MergedIn.{HasCompactCoupons, HasPlainRegisters}
 use Rattle.hll_sketch.specs.Updatable.{HasUpdatableCoupons}
 use Rattle.hll_sketch.specs.Value.{Sketch, IsLgK}
+use Rattle.hll_sketch.proofs.Adding.{add_each}
 use Rattle.hll_sketch.proofs.FirstFailing.{none_before}
 use Rattle.hll_sketch.proofs.FirstFaults.{faultless_is_image}
 use Rattle.hll_sketch.proofs.SetFields.{coupons_stay}
 use Rattle.hll_c.specs.Answers.{IsImageOf, WithFields, RefusesArguments, argument, memory, RefusesImage, RefusesInfo, RefusesTested, image_fault, image_memory, RefusesWith, argument_with_image, image_refused, RefusesImages, argument_with_images, images_fault, images_memory}
 use Rattle.hll_c.specs.Batches.{AreEnds, AreReadAs, IsFirstFaulty, MayAskAt, strings}
-use Rattle.hll_c.specs.Calls.{bits_of, HasValues, AreNewArguments, IsEmptyAt, IsMadeOf, IsFoldOf, RefusesFold, above, with, AreUnionArguments, IsUnionOf, AreBatchArguments}
+use Rattle.hll_c.specs.Calls.{bits_of, AreOfCoupon, HasCoupon, HasValues, AreNewArguments, IsEmptyAt, IsMadeOf, IsFoldOf, RefusesFold, above, with, AreUnionArguments, IsUnionOf, AreBatchArguments}
 use Rattle.hll_c.specs.Steps.{IsRefusedAt}
 
 -- ---- reading
@@ -111,14 +114,11 @@ pub no_memory_new : (k bits : ℕ) (y : Sketch) → IsEmptyAt k bits y → Refus
 no_memory_new k bits y made = memory made.arguments
 
 module _ (image : List ℕ) (IsMade : Sketch → Sketch → Type 0) (y : Sketch) (made : IsMadeOf image IsMade y) where
-  pub no_memory_for : RefusesImage image Memory
+  no_memory_for : RefusesImage image Memory
   no_memory_for = image_memory (no_size_fault image made.sketch made.read)
 
   pub no_memory_with : (InRange : Type 0) → ((x z : Sketch) → IsMade x z → InRange) → RefusesWith InRange image Memory
   no_memory_with InRange in_range = image_refused (in_range made.sketch y made.is_made) no_memory_for
-
-pub no_memory_to_fold : (image : List ℕ) (k : ℕ) (y : Sketch) → IsMadeOf image (IsFoldOf k) y → RefusesFold k image Memory
-no_memory_to_fold image k y made = with (no_memory_with image (IsFoldOf k) y made (IsLgK k) (λ x z fold. fold.lg_k_is))
 
 -- a batch of images is rejected as the images are
 pub refuses_in_batch : (k bits : ℕ) (images ends : List ℕ) (failed_old failed_new : ℕ) (e : Reason) → AreEnds (length images) ends
@@ -157,3 +157,26 @@ pub values_in_bytes : (values ends image bytes : List ℕ) → AreEnds (length v
     → IsImageOf (WithFields (IsMadeOf image (HasValues values ends))) bytes
 values_in_bytes values ends image bytes are at =
     (_, (_, record { sketch = at.sketch; read = at.read; is_made = record { are = are; is = refl } }, coupons_stay _ at.in_table), at.written)
+
+pub coupon_in_bytes : (slot value c : ℕ) (image bytes : List ℕ) → AreOfCoupon slot value → c ≡ pair slot value → IsImageWith (c ∷ []) image bytes
+    → IsImageOf (WithFields (IsMadeOf image (HasCoupon slot value))) bytes
+coupon_in_bytes slot value c image bytes are is at = (
+  _,
+  (
+    _,
+    record { sketch = at.sketch; read = at.read; is_made = record { are = are; is = add_each at.sketch c [] ∙ ap (λ n. add at.sketch (set_of (n ∷ []))) is } },
+    coupons_stay _ at.in_table,
+  ),
+  at.written,
+)
+
+pub fold_in_bytes : (k e : ℕ) (image bytes : List ℕ) → IsLgK k → e ≡ k → IsFoldedImage e image bytes → IsImageOf (WithFields (IsMadeOf image (IsFoldOf k))) bytes
+fold_in_bytes k e image bytes legal is at = (
+  _,
+  (
+    _,
+    record { sketch = at.sketch; read = at.read; is_made = record { lg_k_is = legal; within = subst (IsFoldLgK at.sketch.lg_k) is at.within; is = ap (folded at.sketch) is } },
+    coupons_stay _ at.in_table,
+  ),
+  at.written,
+)

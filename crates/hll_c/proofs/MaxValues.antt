@@ -34,16 +34,6 @@ pub max_of_all : (k : ℕ) (R now values ends : List ℕ) (start i : ℕ) → le
 max_of_all k R now values ends start i all size left =
     joined-nil now k size ∙ ap (λ s. join now (fold_to (set_of (map coupon_of_bytes s)) k)) (sym (strings_end start values ends i all)) ∙ left.same
 
--- ---- coupons, added in turn
-
-pub coupons_more : (k : ℕ) (now next coupons : List ℕ) (i : ℕ) (all : List ℕ) → i < length coupons → join now (fold_to (set_of (drop i coupons)) k) ≡ all
-    → next ≡ join now (fold_to (set_of (get_or coupons i 0 ∷ [])) k) → join next (fold_to (set_of (drop (i + 1) coupons)) k) ≡ all
-coupons_more k now next coupons i all inside same is =
-    joined-more now next (get_or coupons i 0) (drop (i + 1) coupons) k is ∙ ap (λ cs. join now (fold_to (set_of cs) k)) (sym (drop_more coupons i 0 inside)) ∙ same
-
-pub coupons_all : (k : ℕ) (now coupons : List ℕ) (i : ℕ) (all : List ℕ) → length coupons ≤ i → length now ≡ 2 ^ k → join now (fold_to (set_of (drop i coupons)) k) ≡ all → now ≡ all
-coupons_all k now coupons i all past size same = joined-nil now k size ∙ ap (λ cs. join now (fold_to (set_of cs) k)) (sym (drop_all i coupons past)) ∙ same
-
 -- ---- coupons that have values
 
 module _ (coupons : List ℕ) (i : ℕ) where

@@ -1,12 +1,13 @@
 -- SPDX-License-Identifier: Apache-2.0
 -- Lemmas on the width in the header of an image.
-use Rattle.std.proofs.Common.{◌≡◌, arith, ℕ, ◌/◌, ◌%◌, ◌≤◌, List, length, take, inl, inr, refl, sym, ◌∙◌, ap, subst}
+use Rattle.std.proofs.Common.{◌≡◌, arith, false, ℕ, ◌/◌, ◌%◌, ◌≤◌, List, length, take, inl, inr, refl, sym, ◌∙◌, ap, subst}
 use Rattle.std.proofs.lemmas.List.{get_or-take, length-take}
 use Rattle.hll_base.specs.declared.hll_type.HllType.{HllType}
 use Rattle.hll_sketch.specs.CouponImages.{IsImageAt}
 use Rattle.hll_sketch.specs.Image.{IsReadAs, Image, list, set, hll8, hll6, hll4, width_bits, width_of_bits}
 use Rattle.hll_sketch.specs.RegisterImages.{IsFilledImageOf}
-use Rattle.hll_sketch.specs.Value.{Sketch}
+use Rattle.hll_sketch.specs.Value.{Sketch, in_registers}
+use Rattle.hll_sketch.specs.Written.{Written}
 use Rattle.hll_sketch.proofs.SetFields.{coupons_stay}
 use Rattle.hll_c.specs.Answers.{IsImageOf, WithFields}
 use Rattle.hll_c.specs.Calls.{HasWidth, IsAtWidth, AsksWidth, IsAskedWidth, of_bits, as_given, IsMadeOf}
@@ -32,6 +33,13 @@ width_read b x read =
     let whole = whole_image (take read.size b) x read.image in
     width_of_image (take read.size b) x read.image
     ∙ ap (λ mode. width_of_bits (mode / 4 % 4)) (get_or-take read.size b 7 0 (omega (arith, whole, length-take read.size b)))
+
+-- what is written at the width in the header is written for the sketch itself
+pub own_image : (width : HllType) (image bytes : List ℕ) → width ≡ width_of_bits (width_bits image) → IsImageAt width image bytes
+    → (x : Sketch) × IsReadAs image x × (in_registers x.content ≡ false) × Written bytes x
+own_image width image bytes is at =
+    let same : width ≡ at.sketch.width = is ∙ sym (width_read image at.sketch at.read) in
+    (at.sketch, at.read, at.in_table, subst (λ w. Written bytes (record at.sketch { width = w })) same at.written)
 
 -- ---- images at a width that is asked for
 

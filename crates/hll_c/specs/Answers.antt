@@ -7,7 +7,6 @@ use Rattle.hll_base.specs.declared.error.Reason.TheVariants.{Argument, Memory}
 use Rattle.hll_sketch.specs.ByteRegisters.{ReadNeedsMemory}
 use Rattle.hll_sketch.specs.Checks.{first_fault, size_fault}
 use Rattle.hll_sketch.specs.EstimatorFields.{FillsFields}
-use Rattle.hll_sketch.specs.MergedIn.{HasCompactCoupons, HasPlainRegisters}
 use Rattle.hll_sketch.specs.Value.{Sketch}
 use Rattle.hll_sketch.specs.Written.{Written}
 use Rattle.hll_c.specs.Batches.{IsFirstFaulty, MayAskAt}
@@ -71,14 +70,13 @@ pub data RefusesWith (InRange : Type 0) (image : List ℕ) : Reason → Type 0 w
   argument_with_image : (InRange → ⊥) → RefusesWith InRange image Argument
   image_refused : {r : Reason} → InRange → RefusesImage image r → RefusesWith InRange image r
 
--- The image is rejected; with `Memory` only if merging it into registers may need an allocation.
+-- The image is rejected; with `Memory` only if reading it may need an allocation.
 abbrev pub RefusesTested : List ℕ → Reason → Type 0
 RefusesTested image r = RefusesImage image r × (r ≡ Memory → ReadNeedsMemory image)
 
--- An argument is out of range, or the image is rejected; with `Memory` never if it has compact coupons that ascend or are few,
--- 8-bit or 6-bit registers, or 4-bit registers without exceptions.
+-- An argument is out of range, or the image is rejected; with `Memory` only if reading it may need an allocation.
 abbrev pub RefusesInfo : Type 0 → List ℕ → Reason → Type 0
-RefusesInfo InRange image r = RefusesWith InRange image r × (r ≡ Memory → (HasCompactCoupons image → ⊥) × (HasPlainRegisters image → ⊥))
+RefusesInfo InRange image r = RefusesWith InRange image r × (r ≡ Memory → ReadNeedsMemory image)
 
 -- An argument is out of range, or one of several images is rejected: `failed` becomes the number of the first image that fails
 -- a check, and is unchanged on any other error. An allocation fails only after the images before were read, at an image whose

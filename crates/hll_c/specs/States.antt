@@ -5,7 +5,7 @@ use Rattle.hll_base.specs.Reason.{number_of}
 use Rattle.hll_base.specs.declared.error.Reason.{Reason}
 use Rattle.hll_base.specs.declared.error.Reason.TheVariants.{Argument, Memory, Register}
 use Rattle.hll_base.specs.declared.hll_type.HllType.TheVariants.{Hll8}
-use Rattle.hll_sketch.specs.BorrowedImage.{BorrowNeedsMemory}
+use Rattle.hll_sketch.specs.ByteRegisters.{ReadNeedsMemory}
 use Rattle.hll_sketch.specs.Image.{IsReadAs}
 use Rattle.hll_sketch.specs.Laws.{add_in_turn}
 use Rattle.hll_sketch.specs.Value.{Sketch, IsLgK, IsLegal, is_empty, empty_sketch}
@@ -142,7 +142,7 @@ pub record BeginsAndJoins (lg_max_k others : ℕ) (y : Sketch) (old new : List (
 -- and nothing changes.
 pub data JoinsImage (lg_max_k : ℕ) (image : List ℕ) (old new : List (List ℕ)) (size_old size_new : ℕ) : ℕ → Type 0 where
   image_read : {code : ℕ} → (y : Sketch) → IsReadAs image y → BeginsAndJoins lg_max_k (bit_of y.width) y old new size_old size_new code → JoinsImage lg_max_k image old new size_old size_new code
-  image_not_read : {r : Reason} → RefusesWith (IsStateUnder lg_max_k old) image r → (r ≡ Memory → BorrowNeedsMemory image) → new ≡ old → size_new ≡ size_old
+  image_not_read : {r : Reason} → RefusesWith (IsStateUnder lg_max_k old) image r → (r ≡ Memory → ReadNeedsMemory image) → new ≡ old → size_new ≡ size_old
       → JoinsImage lg_max_k image old new size_old size_new (number_of r)
 
 -- The sketch of another state is merged in; or an argument is out of range, one of the two is not a state, or the other one

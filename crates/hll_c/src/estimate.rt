@@ -15,7 +15,9 @@ use hll_arrays::kernels::{count_zeros, units};
 use hll_base::error::{Error, Reason};
 use hll_estimate::double::nearest_double;
 use hll_estimate::estimate::estimate_of;
-use hll_sketch::{HllSketch, image_of_coupons, register_totals};
+use hll_sketch::Totals;
+use hll_sketch::borrowed_image::BorrowedImage;
+use hll_sketch::coupon_room::CouponRoom;
 use std::alloc::Global;
 
 /// The greatest number of registers.
@@ -63,15 +65,15 @@ pub(crate) fn estimate_of_image(alloc: Global, image: &[u8]) -> Result<HllEstima
     ensures ok { IfOk result (SaysEstimate image.now) }
     ensures err { IfErr result (RefusesInfo (Unit {0}) image.now) }
 {
-    if let Some(coupons) = image_of_coupons(image) {
-        return Ok(estimate_of_coupons(coupons.count));
-    }
-    match register_totals(alloc, image)? {
-        Some(totals) => Ok(estimate_of_totals(totals.lg_k, totals.zeros, totals.units)),
-        None => {
-            let sketch = HllSketch::deserialize(alloc, image)?;
-            Ok(estimate_of_coupons(sketch.num_coupons().unwrap_or(0)))
-        }
+    let mut room = CouponRoom::new();
+    let image = BorrowedImage::read(alloc, image, &mut room)?;
+    match image.totals() {
+        Totals::Coupons { count, .. } => Ok(estimate_of_coupons(count)),
+        Totals::Registers(totals) => Ok(estimate_of_totals(
+            image.lg_k(),
+            totals.zeros,
+            totals.units,
+        )),
     }
 }
 

@@ -1,9 +1,10 @@
 // SPDX-License-Identifier: Apache-2.0
 //! The calls over images.
-ghost use Rattle.std.specs.Prelude.{◌≡◌, ◌≢◌, ◌^◌, ◌≤◌, ◌⊎◌, ◌↔◌, ◌∷◌, [], Bool, true, min, length, map, IsTrue, IfSome, IfOk, IfErr, OnOk, OnErr};
+ghost use Rattle.std.specs.Prelude.{◌≡◌, ◌≢◌, ◌≤◌, ◌⊎◌, ◌↔◌, ◌∷◌, [], min, length, map, IsTrue, IfSome, IfOk, IfErr, OnOk, OnErr};
 ghost use Rattle.hll_base.specs.declared.error.Reason.TheVariants as reasons;
 ghost use Rattle.hll_coupons.specs.Hashed.{coupon_of_bytes};
-ghost use Rattle.hll_coupons.specs.Fold.{fold_to, pairs};
+ghost use Rattle.hll_coupons.specs.Pair.{set_of, value_of};
+ghost use Rattle.hll_sketch.specs.Adding.{add};
 ghost use Rattle.hll_sketch.specs.BorrowedRegisters.{lg_k_of, values_of, AreWhole};
 ghost use Rattle.hll_sketch.specs.ByteRegisters.{AreRegistersOf};
 ghost use Rattle.hll_sketch.specs.CouponImages.{IsImageWith};
@@ -28,7 +29,7 @@ use hll_coupons::serialization::{TGT_HLL4, TGT_HLL6, extract_tgt_hll_type};
 use hll_sketch::borrowed_registers::BorrowedRegisters;
 use hll_sketch::coupon_images::{coupon_image_with, says_registers};
 use hll_sketch::image_size::size_of_image;
-use hll_sketch::{HllSketch, coupon_image_at, register_image_at};
+use hll_sketch::{HllSketch, coupon_image_at, folded_coupon_image, register_image_at};
 use std::alloc::Global;
 
 /// The number of byte strings whose coupons are computed before they are added to a sketch.
@@ -92,21 +93,34 @@ pub(crate) fn empty(alloc: Global, lg_k: u32, width: u32) -> Result<HllSketch, E
     HllSketch::new(alloc, lg_k, width_of(width)?)
 }
 
-/// Returns the sketch of the image with one more coupon.
+/// Returns the image with one more coupon, with its estimator fields set if its estimate state is cleared.
 pub(crate) fn with_coupon(
     alloc: Global,
     image: &[u8],
     slot: u32,
     value: u32,
-) -> Result<HllSketch, Error>
-    ensures ok { IfOk result (λ s. IsMadeOf image.now (HasCoupon slot value) (sketch_of s)) }
+) -> Result<Vec<u8>, Error>
+    ensures ok { IfOk result (λ written. IsImageOf (WithFields (IsMadeOf image.now (HasCoupon slot value))) written.items) }
     ensures err { IfErr result (λ e. RefusesWith (AreOfCoupon slot value) image.now e) }
 {
     if !are_of_coupon(slot, value) {
         return Err(Error::new(Reason::Argument));
     }
+    let coupon = Coupon::pack(slot, value as u8);
+    match coupon_image_with(alloc, image, &mut [coupon.raw()])? {
+        Some(written) => Ok(written),
+        None => image_with_fields(sketch_with_coupon(alloc, image, coupon)?),
+    }
+}
+
+/// Returns the sketch of the image with one more coupon.
+fn sketch_with_coupon(alloc: Global, image: &[u8], coupon: Coupon) -> Result<HllSketch, Error>
+    requires { 1 ≤ value_of coupon }
+    ensures ok { IfOk result (λ s. IsMadeOf image.now (λ x y. y ≡ add x (set_of (coupon ∷ []))) (sketch_of s)) }
+    ensures err { IfErr result (λ e. RefusesImage image.now e) }
+{
     let mut sketch = HllSketch::deserialize(alloc, image)?;
-    sketch.update_with_coupon(Coupon::pack(slot, value as u8))?;
+    sketch.update_with_coupon(coupon)?;
     Ok(sketch)
 }
 
@@ -194,13 +208,25 @@ fn add_values(sketch: &mut HllSketch, values: &[u8], ends: &[usize]) -> Result<(
     Ok(())
 }
 
-/// Returns the sketch of the image, folded to an `lg_k`.
-pub(crate) fn folded(alloc: Global, image: &[u8], lg_k: u32) -> Result<HllSketch, Error>
-    ensures ok { IfOk result (λ s. IsMadeOf image.now (IsFoldOf lg_k) (sketch_of s)) }
+/// Returns the image folded to an `lg_k`, with its estimator fields set if its estimate state is cleared.
+pub(crate) fn folded(alloc: Global, image: &[u8], lg_k: u32) -> Result<Vec<u8>, Error>
+    ensures ok { IfOk result (λ written. IsImageOf (WithFields (IsMadeOf image.now (IsFoldOf lg_k))) written.items) }
     ensures err { IfErr result (λ e. RefusesFold lg_k image.now e) }
 {
     let target = lg_k_of_number(lg_k)?;
-    HllSketch::deserialize(alloc, image)?.folded(target)
+    match folded_coupon_image(alloc, target, image)? {
+        Some(written) => Ok(written),
+        None => image_with_fields(folded_sketch(alloc, image, target)?),
+    }
+}
+
+/// Returns the sketch of the image, folded to an `lg_k`.
+fn folded_sketch(alloc: Global, image: &[u8], lg_k: u8) -> Result<HllSketch, Error>
+    requires { IsLgK lg_k }
+    ensures ok { IfOk result (λ s. IsMadeOf image.now (IsFoldOf lg_k) (sketch_of s)) }
+    ensures err { IfErr result (λ e. RefusesFold lg_k image.now e) }
+{
+    HllSketch::deserialize(alloc, image)?.folded(lg_k)
 }
 
 /// Returns the image at the width that a number asks for. 0 asks for the image's own width.
@@ -241,14 +267,17 @@ fn width_in_header(image: &[u8]) -> HllType
     }
 }
 
-/// Returns the sketch of the image with its estimator fields set.
-pub(crate) fn with_estimator_fields(alloc: Global, image: &[u8]) -> Result<HllSketch, Error>
-    ensures ok { IfOk result (λ s. IsMadeOf image.now SetsFields (sketch_of s)) }
+/// Returns the image with its estimator fields set.
+pub(crate) fn with_estimator_fields(alloc: Global, image: &[u8]) -> Result<Vec<u8>, Error>
+    ensures ok { IfOk result (λ written. IsImageOf (WithFields (IsMadeOf image.now SetsFields)) written.items) }
     ensures err { IfErr result (λ e. RefusesImage image.now e) }
 {
+    if let Some(written) = coupon_image_at(alloc, width_in_header(image), image)? {
+        return Ok(written);
+    }
     let mut sketch = HllSketch::deserialize(alloc, image)?;
     sketch.set_estimator_fields();
-    Ok(sketch)
+    image_with_fields(sketch)
 }
 
 /// Returns the image with its estimate state cleared.
@@ -256,6 +285,9 @@ pub(crate) fn without_estimator_fields(alloc: Global, image: &[u8]) -> Result<Ve
     ensures ok { IfOk result (λ written. IsImageOf (IsMadeOf image.now IsCleared) written.items) }
     ensures err { IfErr result (λ e. RefusesImage image.now e) }
 {
+    if let Some(written) = coupon_image_at(alloc, width_in_header(image), image)? {
+        return Ok(written);
+    }
     let mut sketch = HllSketch::deserialize(alloc, image)?;
     sketch.clear_estimator_fields();
     sketch.serialize()

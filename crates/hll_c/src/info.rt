@@ -1,12 +1,7 @@
 // SPDX-License-Identifier: Apache-2.0
 //! What an image says.
-ghost use Rattle.std.specs.Prelude.{◌≡◌, ◌^◌, ◌<◌, ◌≤◌, ℕ, List, false, length, IfOk, IfErr};
-ghost use Rattle.hll_coupons.specs.Pair.{Pairs};
-ghost use Rattle.hll_sketch.specs.CouponImages.{IsTableOf};
-ghost use Rattle.hll_sketch.specs.Layout.{content_in, sketch_of};
-ghost use Rattle.hll_sketch.specs.RegisterTotals.{AreTotalsOf};
-ghost use Rattle.hll_sketch.specs.Value as values;
-ghost use Rattle.hll_sketch.specs.Value.{Sketch, in_registers};
+ghost use Rattle.std.specs.Prelude.{◌≡◌, ◌^◌, ◌<◌, length, IfOk, IfErr};
+ghost use Rattle.hll_sketch.specs.BorrowedImage.{sketch_of_borrowed, HasCouponsInTable};
 ghost use Rattle.hll_c.specs.Answers.{RefusesImage, RefusesInfo};
 ghost use Rattle.hll_c.specs.Calls as calls;
 ghost use Rattle.hll_c.specs.Info.{IsInfoOf, SaysInfo, AreCountsOf, SaysHistogram};
@@ -14,9 +9,10 @@ ghost use Rattle.hll_c.specs.Info.{IsInfoOf, SaysInfo, AreCountsOf, SaysHistogra
 use hll_base::error::{Error, Reason};
 use hll_base::hll_type::HllType;
 use hll_coupons::serialization::LG_LIST_BUCKETS;
-use hll_sketch::coupon_images::ImageOfCoupons;
+use hll_sketch::Totals;
+use hll_sketch::borrowed_image::BorrowedImage;
+use hll_sketch::coupon_room::CouponRoom;
 use hll_sketch::image_registers::registers_of_image;
-use hll_sketch::{HllSketch, Mode, RegisterTotals, image_of_coupons, register_totals};
 use std::alloc::Global;
 
 /// The size of `HllInfo` in bytes.
@@ -76,73 +72,45 @@ fn bits_of(width: HllType) -> u8
     }
 }
 
-/// Returns what an image of coupons says.
-fn info_of_coupons(image: ImageOfCoupons) -> HllInfo
-    ensures { (x : Sketch) → IsTableOf image.lg_k image.hll_type image.lg_size image.count x → IsInfoOf x result }
+/// Returns what an image says that has been read.
+fn info_of_read(image: &BorrowedImage<'_>) -> HllInfo
+    requires { HasCouponsInTable image.now }
+    ensures { IsInfoOf (sketch_of_borrowed image.now) result }
 {
-    HllInfo {
-        coupons: image.count as u64,
+    let info = HllInfo {
+        coupons: 0,
         zeros: 0,
         units_high: 0,
         units_low: 0,
         hip: 0,
         kxq0: 0,
         kxq1: 0,
-        lg_k: image.lg_k,
-        width: bits_of(image.hll_type),
-        stage: if image.lg_size == LG_LIST_BUCKETS {
-            LIST
-        } else {
-            SET
-        },
-        is_empty: u8::from(image.count == 0),
-        out_of_order: 0,
-    }
-}
-
-/// Returns what the coupons of a sketch say that are in a table of 2^`lg_size` buckets.
-fn info_of_table(sketch: &HllSketch, lg_size: usize) -> HllInfo
-    requires content { (S : Pairs) × (content_in sketch.now.layout ≡ values.coupons S lg_size) }
-    requires small { lg_size ≤ 26 }
-    ensures { IsInfoOf (sketch_of sketch.now) result }
-{
-    info_of_coupons(ImageOfCoupons {
-        lg_k: sketch.lg_config_k(),
-        hll_type: sketch.target_type(),
-        lg_size: lg_size as u8,
-        count: sketch.num_coupons().unwrap_or(0),
-    })
-}
-
-/// Returns what the coupons of a sketch say.
-fn info_of_sketch(sketch: &HllSketch) -> HllInfo
-    requires { in_registers (content_in sketch.now.layout) ≡ false }
-    ensures { IsInfoOf (sketch_of sketch.now) result }
-{
-    match sketch.mode() {
-        Mode::List { list, .. } => info_of_table(sketch, list.container().lg_size()),
-        Mode::Set { set, .. } => info_of_table(sketch, set.container().lg_size()),
-        Mode::Array4(_) | Mode::Array6(_) | Mode::Array8(_) => unreachable!(),
-    }
-}
-
-/// Returns what registers say, by their totals.
-fn info_of_registers(totals: RegisterTotals) -> HllInfo
-    ensures { (image : List ℕ) → AreTotalsOf image totals → SaysInfo image result }
-{
-    HllInfo {
-        coupons: 0,
-        zeros: u64::from(totals.zeros),
-        units_high: (totals.units >> 64) as u64,
-        units_low: (totals.units & 0xffff_ffff_ffff_ffff) as u64,
-        hip: totals.state.words[0],
-        kxq0: totals.state.words[1],
-        kxq1: totals.state.words[2],
-        lg_k: totals.lg_k,
-        width: bits_of(totals.hll_type),
+        lg_k: image.lg_k(),
+        width: bits_of(image.hll_type()),
         stage: REGISTERS,
-        is_empty: u8::from(totals.is_empty),
-        out_of_order: u8::from(totals.state.out_of_order),
+        is_empty: u8::from(image.is_empty()),
+        out_of_order: 0,
+    };
+    match image.totals() {
+        Totals::Coupons { lg_size, count } => HllInfo {
+            coupons: count as u64,
+            stage: if lg_size == LG_LIST_BUCKETS {
+                LIST
+            } else {
+                SET
+            },
+            ..info
+        },
+        Totals::Registers(totals) => HllInfo {
+            zeros: u64::from(totals.zeros),
+            units_high: (totals.units >> 64) as u64,
+            units_low: (totals.units & 0xffff_ffff_ffff_ffff) as u64,
+            hip: totals.state.words[0],
+            kxq0: totals.state.words[1],
+            kxq1: totals.state.words[2],
+            out_of_order: u8::from(totals.state.out_of_order),
+            ..info
+        },
     }
 }
 
@@ -154,13 +122,9 @@ pub(crate) fn info_of(alloc: Global, image: &[u8], size: usize) -> Result<HllInf
     if size != INFO_SIZE {
         return Err(Error::new(Reason::Argument));
     }
-    if let Some(coupons) = image_of_coupons(image) {
-        return Ok(info_of_coupons(coupons));
-    }
-    match register_totals(alloc, image)? {
-        Some(totals) => Ok(info_of_registers(totals)),
-        None => Ok(info_of_sketch(&HllSketch::deserialize(alloc, image)?)),
-    }
+    let mut room = CouponRoom::new();
+    let image = BorrowedImage::read(alloc, image, &mut room)?;
+    Ok(info_of_read(&image))
 }
 
 /// Counts the registers with each value from 0 to 63.

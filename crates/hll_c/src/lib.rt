@@ -61,9 +61,8 @@ use std::alloc::Global;
 /// Writes what an image says into `info`: its `lg_k`, width and stage, the number of its coupons, or the sums and estimator
 /// fields of its registers. `size` is the size of the caller's structure in bytes.
 ///
-/// Returns `Argument` if `size` is not 64, the reason of the first check that the bytes fail, or `Memory`. Allocates a map for
-/// the exceptions of 4-bit registers, and a table for coupons, except for coupons of a compact image that ascend or are at most
-/// 128.
+/// Returns `Argument` if `size` is not 64, the reason of the first check that the bytes fail, or `Memory`. Allocates as
+/// `hll_image_check` does.
 #[unsafe(no_mangle)]
 pub extern "C" fn hll_image_info(alloc: Global, image: &[u8], info: &mut HllInfo, size: usize) -> u8
     ensures { Reports HllInfo (SaysInfo image.now) (RefusesInfo (size ≡ 64) image.now) info.old info.new result }
@@ -108,8 +107,8 @@ pub extern "C" fn hll_image_size(alloc: Global, image: &[u8], size: &mut usize) 
 /// they fold to.
 ///
 /// Returns the reason of the first check that the bytes fail, or `Memory`. Allocates one byte for each register; a map for the
-/// exceptions of 4-bit registers; and a table for coupons, except for coupons of a compact image that ascend or are at most
-/// 128.
+/// exceptions of 4-bit registers; and a table for coupons, except for at most 128 or ascending ones in a compact image and for 1
+/// to 128 in an updatable one.
 #[unsafe(no_mangle)]
 pub extern "C" fn hll_image_histogram(
     alloc: Global,
@@ -171,7 +170,7 @@ pub extern "C" fn hll_image_add_coupon(
 ) -> u8
     ensures { Answers (IsMadeOf image.now (HasCoupon slot value)) (RefusesWith (AreOfCoupon slot value) image.now) out.old out.new size.old size.new result }
 {
-    put_image(image::with_coupon(alloc, image, slot, value), out, size)
+    put_bytes(image::with_coupon(alloc, image, slot, value), out, size)
 }
 
 /// Writes the image of the union of two images into `out`, at a width. `lg_max_k` is the bound of its `lg_k`.
@@ -261,7 +260,7 @@ pub extern "C" fn hll_image_fold(
 ) -> u8
     ensures { Answers (IsMadeOf image.now (IsFoldOf lg_k)) (RefusesFold lg_k image.now) out.old out.new size.old size.new result }
 {
-    put_image(image::folded(alloc, image, lg_k), out, size)
+    put_bytes(image::folded(alloc, image, lg_k), out, size)
 }
 
 /// Writes the image at another width into `out`, and keeps the estimate state of its registers. A width of 0 is the image's
@@ -295,7 +294,7 @@ pub extern "C" fn hll_image_set_estimator_fields(
 ) -> u8
     ensures { Answers (IsMadeOf image.now SetsFields) (RefusesImage image.now) out.old out.new size.old size.new result }
 {
-    put_image(image::with_estimator_fields(alloc, image), out, size)
+    put_bytes(image::with_estimator_fields(alloc, image), out, size)
 }
 
 /// Writes the image with its estimate state cleared into `out`: with estimator fields of 0 and the out-of-order flag. The

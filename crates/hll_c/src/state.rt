@@ -1,6 +1,6 @@
 // SPDX-License-Identifier: Apache-2.0
 //! States of counters in caller-owned memory.
-ghost use Rattle.std.specs.Prelude.{◌≡◌, ◌≢◌, ℕ, ◌*◌, ◌-◌, ◌^◌, ◌<◌, ◌≤◌, ◌⊎◌, [], ◌∷◌, true, false, Some, None, length, map, take, drop, IfOk, IfErr};
+ghost use Rattle.std.specs.Prelude.{◌≡◌, ◌≢◌, ◌*◌, ◌-◌, ◌^◌, ◌<◌, ◌≤◌, ◌⊎◌, [], ◌∷◌, Some, length, map, IfOk, IfErr};
 ghost use Rattle.hll_base.specs.declared.error.Reason.TheVariants.{Memory};
 ghost use Rattle.hll_base.specs.declared.error.Reason.TheVariants as reasons;
 ghost use Rattle.hll_coupons.specs.Hashed.{coupon_of_bytes};
@@ -9,7 +9,6 @@ ghost use Rattle.hll_sketch.specs.EstimatorFields.{FillsFields};
 ghost use Rattle.hll_sketch.specs.RegisterImages.{FillsState};
 ghost use Rattle.hll_sketch.specs.Value as contents;
 ghost use Rattle.hll_sketch.specs.Laws.{add_in_turn};
-ghost use Rattle.hll_sketch.specs.Stage as stages;
 ghost use Rattle.hll_sketch.specs.Value.{IsLgK, IsLegal};
 ghost use Rattle.hll_state.specs.Counter.{sketch_in, content_of, IsResolved, AreResolved};
 ghost use Rattle.hll_state.specs.Header.{IsWithin, AreWithin, HasRoom};
@@ -39,7 +38,6 @@ use hll_registers::packed_images::packed_image;
 use hll_registers::register_slice::RegisterSlice;
 use hll_registers::registers::Registers;
 use hll_sketch::coupon_images::coupon_image;
-use hll_sketch::stage::stage;
 use hll_state::header::{CouponTable, HEADER_LEN, Header, Held};
 use hll_state::memory::{
     Begun, add_in_place, begin, close, has_raised, is_open, resolve, set_open,
@@ -312,22 +310,9 @@ fn image_of_coupons(
         alloc,
         lg_k,
         hll_type,
-        lg_size_of(lg_k, coupons),
+        coupons.resolved_size(lg_k),
         coupons.run.as_bytes(body),
     )
-}
-
-/// Returns the size of the table that coupons have. The coupons have one: they don't become registers.
-fn lg_size_of(lg_k: u8, coupons: CouponTable) -> u8
-    requires most { lg_k ≤ 21 }
-    requires stays { coupons.added ≡ true → stages.stage lg_k coupons.lg_size coupons.run.used ≢ None }
-    ensures taken { coupons.added ≡ false → result ≡ coupons.lg_size }
-    ensures added { coupons.added ≡ true → stages.stage lg_k coupons.lg_size coupons.run.used ≡ Some result }
-{
-    match stage(lg_k, coupons.lg_size, coupons.run.used) {
-        Some(lg_size) if coupons.added => lg_size,
-        _ => coupons.lg_size,
-    }
 }
 
 /// Returns the estimate of the sketch of a state.

@@ -13,7 +13,8 @@ use Rattle.hll_coupons.specs.Coupons.{coupon_bytes, AreCoupons, IsAscending, Wri
 use Rattle.hll_coupons.proofs.Ascending.{len-ascending}
 use Rattle.hll_coupons.proofs.Merging.{count_in_bytes}
 use Rattle.hll_sketch.specs.Adding.{add, content_for, content_with}
-use Rattle.hll_sketch.specs.CouponImages.{IsInOrder, IsImageOfTable, HaveUnionInTable, IsImageOfUnion, AreBothRead, IsImageAt, IsImageOfBoth, IsImageWith}
+use Rattle.hll_sketch.specs.CouponImages.{IsInOrder, HaveUnionInTable, IsImageOfUnion, AreBothRead, IsImageAt, IsFoldedImage, IsImageOfBoth, IsImageWith}
+use Rattle.hll_sketch.specs.Folding.{folded, folded_content}
 use Rattle.hll_sketch.specs.Header.{header_of}
 use Rattle.hll_sketch.specs.declared.header.Header.{Header}
 use Rattle.hll_sketch.specs.Image.{AreBytes, IsReadAs, byte, lg_k_byte, table_byte, width_bits, width_of_bits, HasHeader, list, set, hll8, hll6, hll4}
@@ -66,20 +67,6 @@ module _ (b order : List ℕ) (of : IsOfCoupons b order) where
     | hll6 is e ↦ absurd (no_registers of.content (ap (λ (x : Sketch). in_registers x.content) e))
     | hll4 is e ↦ absurd (no_registers of.content (ap (λ (x : Sketch). in_registers x.content) e))
   ]
-
-  -- an image of coupons, whose header is read
-  pub of_table : (h : Header) → h ≡ header_of b → (n : ℕ) → len (set_of order) ≡ n → IsImageOfTable b h.lg_k h.hll_type h.lg_arr n
-  of_table h is n number = record {
-    sketch = of.sketch;
-    read = of.read;
-    is = record {
-      lg_k = coupons_say.0 ∙ sym (ap (λ (i : Header). i.lg_k) is);
-      width_is = coupons_have ∙ sym (ap (λ (i : Header). i.hll_type) is);
-      pairs = set_of order;
-      content = of.content ∙ ap (coupons (set_of order)) (coupons_say.1 ∙ sym (ap (λ (i : Header). i.lg_arr) is));
-      number = number;
-    };
-  }
 
   -- the sketch that it is read as, by what its header says
   pub sketch_said : (h : Header) → h ≡ header_of b → of.sketch ≡ record { lg_k = h.lg_k; width = h.hll_type; content = coupons (set_of order) h.lg_arr }
@@ -234,6 +221,26 @@ module _ (k size : ℕ) (b xs : List ℕ) (of : IsInOrder b k size xs) where
     written = subst (λ (c : Content). Written image (record of.sketch { width = width; content = c })) (sym of.content)
         (record { order = xs; ascending = own_order; is = is ∙ ap (λ n. coupon_image n width size xs) (sym of.lg_k) });
   }
+
+  -- what is written for the fold
+  pub image_folded : (e size_at : ℕ) (width : HllType) (image : List ℕ) → of.sketch.width ≡ width → IsLgK e → e ≤ k → stage e 3 (length xs) ≡ Some size_at
+      → image ≡ coupon_image e width size_at xs → IsFoldedImage e b image
+  image_folded e size_at width image width_is legal within held is = record {
+    sketch = of.sketch;
+    read = of.read;
+    within = record { low = legal.low; high = subst (λ n. e ≤ n) (sym of.lg_k) within };
+    in_table = ap (λ (z : Sketch). in_registers z.content) same;
+    written = subst (Written image) (sym same) (record { order = xs; ascending = own_order; is = is ∙ ap (λ w. coupon_image e w size_at xs) (sym width_is) });
+  }
+    where
+      content : folded_content of.sketch.lg_k e of.sketch.content ≡ coupons (set_of xs) size_at
+      content =
+          ap (folded_content of.sketch.lg_k e) of.content
+          ∙ ap (λ n. content_for e (set_of xs) (stage e 3 n)) (sym (len-ascending xs (set_of xs) own_order))
+          ∙ ap (content_for e (set_of xs)) held
+
+      same : folded of.sketch e ≡ record { lg_k = e; width = of.sketch.width; content = coupons (set_of xs) size_at }
+      same = ap (λ c. let z : Sketch = record { lg_k = e; width = of.sketch.width; content = c } in z) content
 
   -- its table holds the coupons
   pub own_table : AreBytes b → IsTableFor k (length xs) size

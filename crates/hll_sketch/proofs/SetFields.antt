@@ -7,7 +7,7 @@ use Rattle.hll_registers.specs.declared.estimate_state.EstimateState.{EstimateSt
 use Rattle.hll_registers.specs.EstimatorFields.{AreEstimatorFields}
 use Rattle.hll_registers.proofs.Binary64.{one_estimator_state}
 use Rattle.hll_registers.specs.State.{cleared_state}
-use Rattle.hll_sketch.specs.EstimatorFields.{SetsFields, SetsFieldsIn, AreFieldsIn, HasClearedState, FillsFields, stays, with_state, FieldsKeep, FieldsTwice, HaveSameRegisters, SameRegistersSameBytes}
+use Rattle.hll_sketch.specs.EstimatorFields.{SetsFields, SetsFieldsIn, AreFieldsIn, HasClearedState, FillsFields, stays, cleared, cleared_content, with_state, FieldsKeep, FieldsTwice, HaveSameRegisters, SameRegistersSameBytes}
 use Rattle.hll_sketch.specs.Layout.{SketchLayout, Layout, list, set, array, content_in}
 use Rattle.hll_sketch.specs.Value.{Sketch, Content, coupons, registers, in_registers, pairs_in, size_in, IsLegal, IsLegalContent, IsLgK, IsEqualContent}
 use Rattle.hll_sketch.specs.Written.{Written, HaveSameSize}
@@ -90,6 +90,21 @@ no_state (registers R s) out cleared = true≢false out
 -- and no fields to set
 pub coupons_stay : (x : Sketch) → in_registers x.content ≡ false → FillsFields x x
 coupons_stay x out = stays (no_state x.content out) refl
+
+set_in : (c : Content) → in_registers c ≡ false → SetsFieldsIn c c
+set_in (coupons S size) out = refl
+set_in (registers R s) out = absurd (true≢false out)
+
+pub coupons_are_set : (x : Sketch) → in_registers x.content ≡ false → SetsFields x x
+coupons_are_set x out = record { lg_k = refl; width = refl; content = set_in x.content out }
+
+-- nor to clear
+cleared_in : (c : Content) → in_registers c ≡ false → cleared_content c ≡ c
+cleared_in (coupons S size) out = refl
+cleared_in (registers R s) out = absurd (true≢false out)
+
+pub coupons_are_cleared : (x : Sketch) → in_registers x.content ≡ false → x ≡ cleared x
+coupons_are_cleared x out = λ i. record x { content = sym (cleared_in x.content out) i }
 
 -- a layout has an estimate state of its own to keep
 pub own_layout : (x : SketchLayout) → (s : EstimateState) × (x ≡ record x { layout = with_state x.layout s })

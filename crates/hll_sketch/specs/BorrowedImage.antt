@@ -1,16 +1,13 @@
 -- SPDX-License-Identifier: Apache-2.0
 -- The sketch of an image whose coupons or registers are borrowed from its bytes (docs/MODEL.md, "Sketch values").
-use Rattle.std.specs.Prelude.{◌≡◌, ℕ, List, map, None}
+use Rattle.std.specs.Prelude.{◌≡◌, map, false}
 use Rattle.std.specs.Int.{w32, from_le_bytes}
 use Rattle.hll_base.specs.declared.hll_type.HllType.{HllType}
 use Rattle.hll_base.specs.declared.hll_type.HllType.TheVariants.{Hll4, Hll6, Hll8}
 use Rattle.hll_coupons.specs.Pair.{set_of}
 use Rattle.hll_registers.specs.Store.{Stored}
-use Rattle.hll_sketch.specs.Checks.{size_fault}
 use Rattle.hll_sketch.specs.Layout.{sketch_of}
-use Rattle.hll_sketch.specs.MergedIn.{HasCompactCoupons, HasPlainRegisters}
-use Rattle.hll_sketch.specs.Updatable.{HasUpdatableCoupons}
-use Rattle.hll_sketch.specs.Value.{Sketch, coupons, registers}
+use Rattle.hll_sketch.specs.Value.{Sketch, coupons, registers, in_registers}
 use Rattle.hll_sketch.specs.declared.borrowed_image.BorrowedImage.{BorrowedImage}
 use Rattle.hll_sketch.specs.declared.borrowed_image.BorrowedImage.TheVariants.{Coupons, Table, Nibbles, Groups, Bytes}
 use Rattle.hll_sketch.specs.declared.coupons_of_image.CouponsOfImage.{CouponsOfImage}
@@ -30,10 +27,10 @@ sketch_of_borrowed (Nibbles x) = sketch_in_width Hll4 x
 sketch_of_borrowed (Groups x) = sketch_in_width Hll6 x
 sketch_of_borrowed (Bytes x) = sketch_in_width Hll8 x
 
--- Reading needs an allocation only if the header, the counts and the length are right: for coupons of a compact image for which
--- one pass is not enough, for an updatable image unless it has few coupons, and for the exceptions of 4-bit registers.
-pub record BorrowNeedsMemory (b : List ℕ) : Type 0 where
-  pub sized : size_fault b ≡ None
-  pub coupons : HasCompactCoupons b → ⊥
-  pub buckets : HasUpdatableCoupons b → ⊥
-  pub registers : HasPlainRegisters b → ⊥
+-- a table has coupons, not registers
+abbrev pub HasCouponsInTable : {A : Type 0} → BorrowedImage A → Type 0
+HasCouponsInTable (Coupons c) = Unit {0}
+HasCouponsInTable (Table s) = in_registers (sketch_of s).content ≡ false
+HasCouponsInTable (Nibbles x) = Unit {0}
+HasCouponsInTable (Groups x) = Unit {0}
+HasCouponsInTable (Bytes x) = Unit {0}

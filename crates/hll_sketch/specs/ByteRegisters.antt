@@ -28,9 +28,9 @@ pub record TakesMaxWithImage (k : ℕ) (image old new : List ℕ) (answer : Opti
   pub read : IsReadAs image sketch
   pub is : TakesMaxWithSketch k sketch old new answer
 
--- Merging an image into registers may need an allocation only if its header, counts and length are right. It needs none for
--- compact coupons that ascend or are few, for an updatable image of few coupons, for 8-bit or 6-bit registers, and for 4-bit
--- registers without exceptions.
+-- Reading an image, or merging it into registers, may need an allocation only if its header, counts and length are right. It needs
+-- none for compact coupons that ascend or are few, for an updatable image of few coupons, for 8-bit or 6-bit registers, and for
+-- 4-bit registers without exceptions.
 pub record ReadNeedsMemory (b : List ℕ) : Type 0 where
   pub sized : size_fault b ≡ None
   pub coupons : HasCompactCoupons b → ⊥

@@ -5,7 +5,8 @@ use Rattle.std.specs.FinSet.{len, union}
 use Rattle.std.specs.List.Sorted.{IsStrictlyIncreasing}
 use Rattle.hll_base.specs.declared.hll_type.HllType.{HllType}
 use Rattle.hll_coupons.specs.Coupons.{WritesAscending}
-use Rattle.hll_coupons.specs.Pair.{Pairs, set_of}
+use Rattle.hll_coupons.specs.Pair.{set_of}
+use Rattle.hll_sketch.specs.Folding.{folded, IsFoldLgK}
 use Rattle.hll_sketch.specs.Image.{IsReadAs}
 use Rattle.hll_sketch.specs.Laws.{add_in_turn}
 use Rattle.hll_sketch.specs.Merging.{merge, empty_union}
@@ -22,20 +23,6 @@ pub record IsInOrder (b : List ℕ) (k size : ℕ) (order : List ℕ) : Type 0 w
   pub lg_k : sketch.lg_k ≡ k
   pub content : sketch.content ≡ coupons (set_of order) size
   pub ascends : IsStrictlyIncreasing order
-
--- the sketch has this lg_k and width, and this number of coupons in a table of 2^size buckets
-pub record IsTableOf (k : ℕ) (width : HllType) (size count : ℕ) (x : Sketch) : Type 0 where
-  pub lg_k : x.lg_k ≡ k
-  pub width_is : x.width ≡ width
-  pub pairs : Pairs
-  pub content : x.content ≡ coupons pairs size
-  pub number : len pairs ≡ count
-
--- the bytes are read as such a sketch
-pub record IsImageOfTable (b : List ℕ) (k : ℕ) (width : HllType) (size count : ℕ) : Type 0 where
-  pub sketch : Sketch
-  pub read : IsReadAs b sketch
-  pub is : IsTableOf k width size count sketch
 
 -- The bytes are an image of coupons for which one pass shows that they are coupons: it is compact, and they ascend or are at
 -- most 128 or none; or it is updatable, with 1 to 128 coupons.
@@ -94,3 +81,11 @@ pub record IsImageAt (width : HllType) (image bytes : List ℕ) : Type 0 where
   pub read : IsReadAs image sketch
   pub in_table : in_registers sketch.content ≡ false
   pub written : Written bytes (record sketch { width = width })
+
+-- the bytes are what is written for the sketch that an image is read as, folded to an lg_k; it still has coupons
+pub record IsFoldedImage (lg_k : ℕ) (image bytes : List ℕ) : Type 0 where
+  pub sketch : Sketch
+  pub read : IsReadAs image sketch
+  pub within : IsFoldLgK sketch.lg_k lg_k
+  pub in_table : in_registers (folded sketch lg_k).content ≡ false
+  pub written : Written bytes (folded sketch lg_k)

@@ -23,11 +23,11 @@ pub mod PlainStates
 pub mod Promotion
 pub mod Refusal
 pub mod RegisterImages
-pub mod RegisterTotals
 pub mod Same
 pub mod SameUnions
 pub mod Stage
 pub mod MergedIn
+pub mod Totals
 pub mod Union
 pub mod Updatable
 pub mod Value

@@ -4,7 +4,8 @@
 ghost use Rattle.std.specs.Prelude.{◌≡◌, ◌<◌, IfOk, IfErr};
 ghost use Rattle.hll_base.specs.declared.error.Reason.TheVariants.{Memory};
 ghost use Rattle.hll_coupons.specs.Coupons.{raw_coupons, AreCoupons};
-ghost use Rattle.hll_sketch.specs.BorrowedImage.{sketch_of_borrowed, sketch_of_coupons, BorrowNeedsMemory};
+ghost use Rattle.hll_sketch.specs.BorrowedImage.{sketch_of_borrowed, sketch_of_coupons, HasCouponsInTable};
+ghost use Rattle.hll_sketch.specs.ByteRegisters.{ReadNeedsMemory};
 ghost use Rattle.hll_sketch.specs.Header.{header_of};
 ghost use Rattle.hll_sketch.specs.Image.{HasHeader, IsReadAs, stage_bits};
 ghost use Rattle.hll_sketch.specs.Layout.{count_in};
@@ -29,6 +30,7 @@ use hll_registers::registers::Registers;
 use std::alloc::{Allocator, Global};
 
 /// The sketch of an image. Only a table, or a map for the exceptions of 4-bit registers, is allocated for it.
+// More methods are in the module totals.
 pub enum BorrowedImage<'a, A: Allocator = Global> {
     /// Coupons of a compact image that ascend or are at most 128, or 1 to 128 coupons of an updatable image.
     Coupons(CouponsOfImage<'a>),
@@ -68,8 +70,9 @@ impl<'a, A: Allocator + Clone> BorrowedImage<'a, A> {
         room: &'a mut CouponRoom,
     ) -> Result<BorrowedImage<'a, A>, Error>
         ensures ok { IfOk result (λ r. IsReadAs image.now (sketch_of_borrowed r)) }
+        ensures table { IfOk result HasCouponsInTable }
         ensures err { IfErr result (IsRefusal image.now) }
-        ensures needed { IfErr result (λ e. e ≡ Memory → BorrowNeedsMemory image.now) }
+        ensures needed { IfErr result (λ e. e ≡ Memory → ReadNeedsMemory image.now) }
     {
         let header = Header::read(image)?;
         match header.stage {
@@ -143,14 +146,15 @@ fn read_coupons<'a, A: Allocator + Clone>(
     requires stage { stage_bits image.now < 2 }
     requires header { header ≡ header_of image.now }
     ensures ok { IfOk result (λ r. IsReadAs image.now (sketch_of_borrowed r)) }
+    ensures table { IfOk result HasCouponsInTable }
     ensures err { IfErr result (IsRefusal image.now) }
-    ensures needed { IfErr result (λ e. e ≡ Memory → BorrowNeedsMemory image.now) }
+    ensures needed { IfErr result (λ e. e ≡ Memory → ReadNeedsMemory image.now) }
 {
     if let Some(coupons) = compact_coupons(image, header) {
         let coupons = coupons_of_image(image, header, coupons);
         return Ok(BorrowedImage::Coupons(coupons));
     }
-    if let Some(coupons) = updatable_coupons(image, header, room.cleared()) {
+    if let Some(coupons) = updatable_coupons(image, header, room) {
         let coupons = coupons_of_image(image, header, coupons);
         return Ok(BorrowedImage::Coupons(coupons));
     }
@@ -186,8 +190,9 @@ fn read_registers<'a, A: Allocator + Clone>(
     requires has { HasHeader image.now 2 }
     requires header { header ≡ header_of image.now }
     ensures ok { IfOk result (λ r. IsReadAs image.now (sketch_of_borrowed r)) }
+    ensures table { IfOk result HasCouponsInTable }
     ensures err { IfErr result (IsRefusal image.now) }
-    ensures needed { IfErr result (λ e. e ≡ Memory → BorrowNeedsMemory image.now) }
+    ensures needed { IfErr result (λ e. e ≡ Memory → ReadNeedsMemory image.now) }
 {
     match header.hll_type {
         HllType::Hll4 => {

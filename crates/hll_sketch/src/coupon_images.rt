@@ -1,6 +1,6 @@
 // SPDX-License-Identifier: Apache-2.0
-//! Makes images of coupons from images of coupons, without a table: the union of two images, an image with coupons added, and
-//! an image at another width. Coupons that ascend, as in images that this library wrote, are read in place. Up to 128 coupons
+//! Makes images of coupons from images of coupons, without a table: the union of two images, an image with coupons added, at
+//! another width, or folded. Coupons that ascend, as in images that this library wrote, are read in place. Up to 128 coupons
 //! in another order are sorted first.
 ghost use Rattle.std.specs.Prelude.{◌≡◌, ℕ, List, ◌≤◌, ◌<◌, true, None, IfSome, IfNone, IfOk, IfErr, OnErr, length};
 ghost use Rattle.std.specs.FinSet.{len, union};
@@ -8,18 +8,17 @@ ghost use Rattle.std.specs.List.Sorted.{IsPermutation, IsStrictlyIncreasing};
 ghost use Rattle.hll_base.specs.declared.error.Reason.TheVariants.{Memory};
 ghost use Rattle.hll_coupons.specs.Coupons.{coupon_bytes, raw_coupons};
 ghost use Rattle.hll_coupons.specs.Pair.{set_of};
-ghost use Rattle.hll_sketch.specs.CouponImages.{IsInOrder, IsImageOfTable, HasEvidentCoupons, HaveUnionInTable, IsImageOfUnion, AreBothRead, IsImageAt, IsImageOfBoth, IsImageWith};
+ghost use Rattle.hll_sketch.specs.CouponImages.{IsInOrder, HasEvidentCoupons, HaveUnionInTable, IsImageOfUnion, AreBothRead, IsImageAt, IsFoldedImage, IsImageOfBoth, IsImageWith};
 ghost use Rattle.hll_sketch.specs.Stage as stages;
 ghost use Rattle.hll_sketch.specs.Image.{IsReadAs};
-ghost use Rattle.hll_sketch.specs.MergedIn.{HasCompactCoupons};
 ghost use Rattle.hll_sketch.specs.Value.{Sketch, IsLgK, IsTableFor};
 ghost use Rattle.hll_sketch.specs.Written as written;
 
+use crate::coupon_room::CouponRoom;
 use crate::header::Header;
-use crate::raw_coupons::{RawCoupons, compact_coupons, counted_coupons};
+use crate::raw_coupons::RawCoupons;
 use crate::sorted::{coupons_in_order, sorted_numbers};
 use crate::stage::stage;
-use crate::updatable::ROOM;
 use hll_base::error::Error;
 use hll_base::hll_type::HllType;
 use hll_coupons::raw_coupons::{list_image, set_image, union_of_ascending};
@@ -37,37 +36,6 @@ struct OrderedImage<'a> {
     lg_size: u8,
     /// The coupons, in ascending order.
     raw_coupons: RawCoupons<'a>,
-}
-
-/// What an image of coupons says, without the coupons.
-#[derive(Clone, Copy)]
-pub struct ImageOfCoupons {
-    /// The logarithm of the number of registers, 4 to 21.
-    pub lg_k: u8,
-    /// The width that its registers will have.
-    pub hll_type: HllType,
-    /// The logarithm of the number of buckets of its table.
-    pub lg_size: u8,
-    /// The number of coupons.
-    pub count: usize,
-}
-
-/// Returns what an image of coupons says, if it is compact, and they ascend or are at most 128. There may be none. Returns
-/// `None` for other images.
-pub fn image_of_coupons(bytes: &[u8]) -> Option<ImageOfCoupons>
-    ensures some { IfSome result (λ i. IsImageOfTable bytes.now i.lg_k i.hll_type i.lg_size i.count) }
-    ensures none { IfNone result (HasCompactCoupons bytes.now → ⊥) }
-{
-    let Ok(header) = Header::read(bytes) else {
-        return None;
-    };
-    let coupons = compact_coupons(bytes, header)?;
-    Some(ImageOfCoupons {
-        lg_k: header.lg_k,
-        hll_type: header.hll_type,
-        lg_size: header.lg_arr,
-        count: coupons.count,
-    })
 }
 
 /// Returns the image, at a width, of the union of two images of coupons, without making a table.
@@ -91,65 +59,14 @@ pub fn union_of_coupon_images<A: Allocator + Clone>(
     ensures read { OnErr result (AreBothRead lg_max_k left.now right.now) }
     ensures err { IfErr result (λ e. e ≡ Memory) }
 {
-    if let (Some(left), Some(right)) = (ascending_image(left), ascending_image(right)) {
-        return union_in_order(alloc, lg_max_k, hll_type, left, right);
-    }
-    if says_registers(left) || says_registers(right) {
-        return Ok(None);
-    }
-    union_of_sorted_images(alloc, lg_max_k, hll_type, left, right)
-}
-
-/// Returns what `union_of_coupon_images` does, for coupons in any order: coupons that don't ascend are sorted first.
-///
-/// Allocates what `union_of_coupon_images` does. Fails with `Memory`.
-// (not inlined: a caller would have to clear the rooms for coupons that ascend too)
-#[inline(never)]
-fn union_of_sorted_images<A: Allocator + Clone>(
-    alloc: A,
-    lg_max_k: u8,
-    hll_type: HllType,
-    left: &[u8],
-    right: &[u8],
-) -> Result<Option<Vec<u8, A>>, Error>
-    ensures some { IfOk result (λ found. IfSome found (λ image. IsImageOfUnion lg_max_k hll_type left.now right.now image.items)) }
-    ensures none { IfOk result (λ found. IfNone found (HaveUnionInTable lg_max_k left.now right.now → ⊥)) }
-    ensures read { OnErr result (AreBothRead lg_max_k left.now right.now) }
-    ensures err { IfErr result (λ e. e ≡ Memory) }
-{
-    let mut left_room = [0; ROOM];
-    let Some(left) = sorted_image(left, &mut left_room) else {
+    let mut left_room = CouponRoom::new();
+    let Some(left) = ordered_image(left, &mut left_room) else {
         return Ok(None);
     };
-    let mut right_room = [0; ROOM];
-    let Some(right) = sorted_image(right, &mut right_room) else {
+    let mut right_room = CouponRoom::new();
+    let Some(right) = ordered_image(right, &mut right_room) else {
         return Ok(None);
     };
-    union_in_order(alloc, lg_max_k, hll_type, left, right)
-}
-
-/// Returns the image, at a width, of the union of two images with their coupons in ascending order. Returns `None` if the first
-/// image is not at `lg_max_k`, the bound of the union, if one of them has no coupons, or if no table holds the coupons of both.
-///
-/// Allocates four bytes for each coupon of both images, and then the image. Fails with `Memory`, only if the first image is at
-/// the bound.
-// (inlined, so that its arguments aren't written to memory)
-#[inline(always)]
-fn union_in_order<A: Allocator + Clone>(
-    alloc: A,
-    lg_max_k: u8,
-    hll_type: HllType,
-    left: OrderedImage<'_>,
-    right: OrderedImage<'_>,
-) -> Result<Option<Vec<u8, A>>, Error>
-    requires left { IsStrictlyIncreasing (raw_coupons left.raw_coupons.count left.raw_coupons.bytes.now) }
-    requires right { IsStrictlyIncreasing (raw_coupons right.raw_coupons.count right.raw_coupons.bytes.now) }
-    requires lg_k { IsLgK left.lg_k }
-    ensures some { IfOk result (λ found. IfSome found (λ image. (l r : List ℕ) → IsInOrder l left.entry.lg_k left.entry.lg_size (raw_coupons left.entry.raw_coupons.count left.entry.raw_coupons.bytes.now) → IsInOrder r right.entry.lg_k right.entry.lg_size (raw_coupons right.entry.raw_coupons.count right.entry.raw_coupons.bytes.now) → IsImageOfUnion lg_max_k hll_type l r image.items)) }
-    ensures none { IfOk result (λ found. IfNone found ((l r : List ℕ) → IsInOrder l left.entry.lg_k left.entry.lg_size (raw_coupons left.entry.raw_coupons.count left.entry.raw_coupons.bytes.now) → IsInOrder r right.entry.lg_k right.entry.lg_size (raw_coupons right.entry.raw_coupons.count right.entry.raw_coupons.bytes.now) → HaveUnionInTable lg_max_k l r → ⊥)) }
-    ensures bound { OnErr result (left.entry.lg_k ≡ lg_max_k) }
-    ensures err { IfErr result (λ e. e ≡ Memory) }
-{
     if left.lg_k != lg_max_k {
         return Ok(None);
     }
@@ -171,7 +88,7 @@ fn union_in_order<A: Allocator + Clone>(
 /// are added to those of the first, whose table has 2^`lg_size` buckets. Returns `None` if no table holds all of them.
 ///
 /// Allocates four bytes for each coupon of both lists, and then the image. Fails with `Memory`.
-// (inlined, as `union_in_order` is)
+// (inlined, so that its arguments aren't written to memory)
 #[inline(always)]
 fn image_of_both<A: Allocator + Clone>(
     alloc: A,
@@ -219,34 +136,8 @@ pub fn coupon_image_with<A: Allocator + Clone>(
     ensures read { OnErr result ((x : Sketch) × IsReadAs image.now x) }
     ensures err { IfErr result (λ e. e ≡ Memory) }
 {
-    if let Some(ordered) = ascending_image(image) {
-        return ordered_image_with(alloc, ordered, raw_coupons);
-    }
-    if says_registers(image) {
-        return Ok(None);
-    }
-    sorted_image_with(alloc, image, raw_coupons)
-}
-
-/// Returns what `coupon_image_with` does, for coupons in any order: coupons that don't ascend are sorted first.
-///
-/// Allocates what `coupon_image_with` does. Fails with `Memory`.
-// (not inlined: a caller would have to clear the room for coupons that ascend too)
-#[inline(never)]
-fn sorted_image_with<A: Allocator + Clone>(
-    alloc: A,
-    image: &[u8],
-    raw_coupons: &mut [u32],
-) -> Result<Option<Vec<u8, A>>, Error>
-    requires some { 1 ≤ length raw_coupons.old }
-    requires few { length raw_coupons.old ≤ 128 }
-    ensures some { IfOk result (λ found. IfSome found (λ written. IsImageWith raw_coupons.old image.now written.items)) }
-    ensures order { IsPermutation raw_coupons.old raw_coupons.new }
-    ensures read { OnErr result ((x : Sketch) × IsReadAs image.now x) }
-    ensures err { IfErr result (λ e. e ≡ Memory) }
-{
-    let mut room = [0; ROOM];
-    match sorted_image(image, &mut room) {
+    let mut room = CouponRoom::new();
+    match ordered_image(image, &mut room) {
         Some(ordered) => ordered_image_with(alloc, ordered, raw_coupons),
         None => Ok(None),
     }
@@ -268,7 +159,7 @@ fn ordered_image_with<A: Allocator + Clone>(
     ensures order { IsPermutation more.old more.new }
     ensures err { IfErr result (λ e. e ≡ Memory) }
 {
-    let mut room = [0; ROOM];
+    let mut room = CouponRoom::new();
     let Some(sorted) = sorted_numbers(more, &mut room) else {
         return Ok(None);
     };
@@ -298,54 +189,47 @@ pub fn coupon_image_at<A: Allocator>(
     ensures read { OnErr result ((x : Sketch) × IsReadAs image.now x) }
     ensures err { IfErr result (λ e. e ≡ Memory) }
 {
-    if let Some(image) = ascending_image(image) {
-        return Ok(Some(image_in_order(alloc, hll_type, image)?));
-    }
-    if says_registers(image) {
+    let mut room = CouponRoom::new();
+    let Some(ordered) = ordered_image(image, &mut room) else {
         return Ok(None);
-    }
-    sorted_image_at(alloc, hll_type, image)
+    };
+    let coupons = ordered.raw_coupons.as_bytes();
+    let written = coupon_image(alloc, ordered.lg_k, hll_type, ordered.lg_size, coupons)?;
+    Ok(Some(written))
 }
 
-/// Returns what `coupon_image_at` does, for coupons in any order: coupons that don't ascend are sorted first.
+/// Returns the image of the sketch of an image of coupons, folded to an `lg_k`, without making a table.
+///
+/// Returns `None` unless all of these hold; then a sketch has to fold the coupons:
+///
+/// - the image is compact, and its coupons ascend or are at most 128, or it is updatable and has 1 to 128 coupons;
+/// - `lg_k` is at most that of the image;
+/// - a table at `lg_k` holds the coupons.
 ///
 /// Allocates once, for the image. Fails with `Memory`.
-// (not inlined: a caller would have to clear the room for coupons that ascend too)
-#[inline(never)]
-fn sorted_image_at<A: Allocator>(
+pub fn folded_coupon_image<A: Allocator>(
     alloc: A,
-    hll_type: HllType,
+    lg_k: u8,
     image: &[u8],
 ) -> Result<Option<Vec<u8, A>>, Error>
-    ensures some { IfOk result (λ found. IfSome found (λ written. IsImageAt hll_type image.now written.items)) }
-    ensures none { IfOk result (λ found. IfNone found (HasEvidentCoupons image.now → ⊥)) }
+    requires { IsLgK lg_k }
+    ensures some { IfOk result (λ found. IfSome found (λ written. IsFoldedImage lg_k image.now written.items)) }
     ensures read { OnErr result ((x : Sketch) × IsReadAs image.now x) }
     ensures err { IfErr result (λ e. e ≡ Memory) }
 {
-    let mut room = [0; ROOM];
-    match sorted_image(image, &mut room) {
-        Some(image) => Ok(Some(image_in_order(alloc, hll_type, image)?)),
-        None => Ok(None),
+    let mut room = CouponRoom::new();
+    let Some(ordered) = ordered_image(image, &mut room) else {
+        return Ok(None);
+    };
+    if ordered.lg_k < lg_k {
+        return Ok(None);
     }
-}
-
-/// Returns the image of coupons that are in ascending order, at a width.
-///
-/// Allocates once. Fails with `Memory`.
-// (inlined, as `union_in_order` is)
-#[inline(always)]
-fn image_in_order<A: Allocator>(
-    alloc: A,
-    hll_type: HllType,
-    image: OrderedImage<'_>,
-) -> Result<Vec<u8, A>, Error>
-    requires lg_k { IsLgK image.lg_k }
-    requires table { IsTableFor image.lg_k (length (raw_coupons image.raw_coupons.count image.raw_coupons.bytes.now)) image.lg_size }
-    ensures ok { IfOk result (λ made. made.items ≡ written.coupon_image image.entry.lg_k hll_type image.entry.lg_size (raw_coupons image.entry.raw_coupons.count image.entry.raw_coupons.bytes.now)) }
-    ensures err { IfErr result (λ e. e ≡ Memory) }
-{
-    let coupons = image.raw_coupons.as_bytes();
-    coupon_image(alloc, image.lg_k, hll_type, image.lg_size, coupons)
+    let Some(lg_size) = stage(lg_k, LG_LIST_BUCKETS, ordered.raw_coupons.count) else {
+        return Ok(None);
+    };
+    let coupons = ordered.raw_coupons.as_bytes();
+    let written = coupon_image(alloc, lg_k, ordered.hll_type, lg_size, coupons)?;
+    Ok(Some(written))
 }
 
 /// Returns whether the mode byte of an image says that it has registers. Then nothing is done for coupons.
@@ -358,30 +242,9 @@ pub fn says_registers(bytes: &[u8]) -> bool
     }
 }
 
-/// Returns what a compact image says, if its coupons ascend. `sorted_image` reads the other images.
-fn ascending_image(bytes: &[u8]) -> Option<OrderedImage<'_>>
-    ensures some { IfSome result (λ a. IsInOrder bytes.now a.lg_k a.lg_size (raw_coupons a.raw_coupons.count a.raw_coupons.bytes.now)) }
-    ensures width { IfSome result (λ a. (x : Sketch) → IsReadAs bytes.now x → x.width ≡ a.hll_type) }
-    ensures legal { IfSome result (λ a. IsLgK a.lg_k) }
-{
-    let Ok(header) = Header::read(bytes) else {
-        return None;
-    };
-    let raw_coupons = counted_coupons(bytes, header)?;
-    if !raw_coupons.ascend() {
-        return None;
-    }
-    Some(OrderedImage {
-        lg_k: header.lg_k,
-        hll_type: header.hll_type,
-        lg_size: header.lg_arr,
-        raw_coupons,
-    })
-}
-
 /// Returns what an image says, if it is compact and its coupons ascend or are at most 128, or if it is updatable and has 1
 /// to 128 coupons. Coupons that don't ascend are sorted into `room`.
-fn sorted_image<'a>(bytes: &'a [u8], room: &'a mut [u8; ROOM]) -> Option<OrderedImage<'a>>
+fn ordered_image<'a>(bytes: &'a [u8], room: &'a mut CouponRoom) -> Option<OrderedImage<'a>>
     ensures some { IfSome result (λ a. IsInOrder bytes.now a.lg_k a.lg_size (raw_coupons a.raw_coupons.count a.raw_coupons.bytes.now)) }
     ensures width { IfSome result (λ a. (x : Sketch) → IsReadAs bytes.now x → x.width ≡ a.hll_type) }
     ensures legal { IfSome result (λ a. IsLgK a.lg_k) }

@@ -1,10 +1,14 @@
 // SPDX-License-Identifier: Apache-2.0
 //! Room that a caller lends for coupons that can't be used in the bytes of their image.
 
-use crate::updatable::ROOM;
+use crate::raw_coupons::FEW;
+use hll_coupons::serialization::COUPON_SIZE_BYTES;
 
-/// Room for the coupons of an updatable image, which are in the buckets of a table: 512 bytes. They are cleared only when they
-/// are used, so it costs a caller nothing to lend the room for each image.
+/// The number of bytes of `FEW` coupons.
+pub(crate) const ROOM: usize = COUPON_SIZE_BYTES * FEW;
+
+/// Room for few coupons that are collected from the buckets of an updatable image, or sorted: 512 bytes. They are cleared only
+/// when they are used, so it costs a caller nothing to lend the room for each image.
 #[derive(Drop)]
 pub struct CouponRoom {
     bytes: Option<[u8; ROOM]>,

@@ -9,12 +9,13 @@ ghost use Rattle.hll_sketch.specs.MergedIn.{HasCompactCoupons, HasPlainRegisters
 ghost use Rattle.hll_sketch.specs.Updatable.{HasUpdatableCoupons};
 ghost use Rattle.hll_sketch.specs.Value.{Sketch};
 
+use crate::coupon_room::CouponRoom;
 use crate::header::{Header, Stage};
 use crate::raw_coupons::compact_coupons;
 use crate::raw_registers::with_registers;
 use crate::read_image::read_sketch;
 use crate::sketch::HllSketch;
-use crate::updatable::{ROOM, updatable_coupons};
+use crate::updatable::updatable_coupons;
 use hll_base::error::Error;
 use std::alloc::Allocator;
 
@@ -46,7 +47,7 @@ impl<A: Allocator + Clone> HllSketch<A> {
 ///
 /// Fails with the reason of the first check that they fail, or else with `Memory`. Allocates a table, except for 1 to 128
 /// coupons of an updatable image.
-// (not inlined: a caller would have to clear the room for compact coupons too)
+// (not inlined: compact coupons need none of it)
 #[inline(never)]
 fn check_other_coupons<A: Allocator + Clone>(
     alloc: &A,
@@ -60,7 +61,7 @@ fn check_other_coupons<A: Allocator + Clone>(
     ensures err { IfErr result (IsRefusal bytes.now) }
     ensures updatable { IfErr result (λ e. e ≡ Memory → HasUpdatableCoupons bytes.now → ⊥) }
 {
-    let mut room = [0; ROOM];
+    let mut room = CouponRoom::new();
     match updatable_coupons(bytes, header, &mut room) {
         Some(_) => Ok(()),
         None => {

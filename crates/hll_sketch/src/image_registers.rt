@@ -12,13 +12,14 @@ ghost use Rattle.hll_sketch.specs.Layout.{sketch_of};
 ghost use Rattle.hll_sketch.specs.Refusal.{IsRefusal};
 ghost use Rattle.hll_sketch.specs.Value.{IsLgK, pairs_of};
 
+use crate::coupon_room::CouponRoom;
 use crate::header::{Header, Stage};
 use crate::raw_coupons::{RawCoupons, compact_coupons};
 use crate::raw_registers::with_registers;
 use crate::read_image::read_sketch;
 use crate::register_folds::fold_of_registers;
 use crate::sketch::HllSketch;
-use crate::updatable::{ROOM, updatable_coupons};
+use crate::updatable::updatable_coupons;
 use hll_arrays::registers::{Registers, two_to};
 use hll_base::error::Error;
 use std::alloc::{Allocator, Global};
@@ -70,7 +71,7 @@ pub(crate) fn registers_of_coupons<A: Allocator + Clone>(
     if let Some(coupons) = compact_coupons(image, header) {
         return registers_of_raw_coupons(alloc, header.lg_k, &coupons);
     }
-    let mut room = [0; ROOM];
+    let mut room = CouponRoom::new();
     if let Some(coupons) = updatable_coupons(image, header, &mut room) {
         return registers_of_raw_coupons(alloc, header.lg_k, &coupons);
     }

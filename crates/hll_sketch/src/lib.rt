@@ -32,12 +32,12 @@ pub mod union;
 pub mod unions;
 mod updatable;
 
-pub use coupon_images::{coupon_image_at, image_of_coupons, union_of_coupon_images};
+pub use coupon_images::{coupon_image_at, folded_coupon_image, union_of_coupon_images};
 pub use header::Stage;
 pub use mode::Mode;
 pub use raw_coupons::max_coupon;
 pub use register_images::register_image_at;
 pub use sketch::HllSketch;
-pub use totals::{RegisterTotals, register_totals};
+pub use totals::{RegisterTotals, Totals};
 pub use union::{HllUnion, agree};
 pub use unions::union_of;

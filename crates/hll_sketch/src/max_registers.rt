@@ -18,13 +18,14 @@ ghost use Rattle.hll_sketch.specs.MergedIn.{HasCompactCoupons, HasPlainRegisters
 ghost use Rattle.hll_sketch.specs.Value as values;
 ghost use Rattle.hll_sketch.specs.Value.{Sketch, IsLgK};
 
+use crate::coupon_room::CouponRoom;
 use crate::header::{Header, Stage};
 use crate::mode::{Mode, array_into_mode};
 use crate::raw_coupons::{compact_coupons, max_coupon};
 use crate::raw_registers::with_registers;
 use crate::read_image::read_sketch;
 use crate::sketch::HllSketch;
-use crate::updatable::{ROOM, updatable_coupons};
+use crate::updatable::updatable_coupons;
 use hll_arrays::array8::Array8;
 use hll_arrays::kernels::max_into;
 use hll_arrays::register_store::RegisterStore;
@@ -70,7 +71,7 @@ pub fn merge_image<A: Allocator + Clone>(
 
 /// Merges the coupons of an image into registers, as `merge_image` does, if one pass over a compact image has not shown that
 /// they are distinct.
-// (not inlined: a caller would have to clear the room for compact coupons too)
+// (not inlined: compact coupons need none of it)
 #[inline(never)]
 fn max_other_coupons<A: Allocator + Clone>(
     alloc: &A,
@@ -90,7 +91,7 @@ fn max_other_coupons<A: Allocator + Clone>(
     ensures err { IfErr result (IsRefusal image.now) }
     ensures needed { IfErr result (λ e. e ≡ Memory → ReadNeedsMemory image.now) }
 {
-    let mut room = [0; ROOM];
+    let mut room = CouponRoom::new();
     if let Some(coupons) = updatable_coupons(image, header, &mut room) {
         coupons.max_into(registers, lg_k);
         return Ok(None);

@@ -20,6 +20,7 @@ ghost use Rattle.hll_sketch.specs.Union.{gadget_of, sketch_of_registers, CanMerg
 ghost use Rattle.hll_sketch.specs.Updatable.{HasUpdatableCoupons};
 ghost use Rattle.hll_sketch.specs.Value.{Sketch, IsLegal, IsLgK, coupons, in_registers, is_empty, registers};
 
+use crate::coupon_room::CouponRoom;
 use crate::header::{Header, Stage};
 use crate::mode::Mode;
 use crate::raw_coupons::{RawCoupons, compact_coupons, counted_coupons};
@@ -28,7 +29,7 @@ use crate::read_image::read_sketch;
 use crate::register_folds::eight_bits_of;
 use crate::sketch::HllSketch;
 use crate::union::HllUnion;
-use crate::updatable::{ROOM, updatable_coupons};
+use crate::updatable::updatable_coupons;
 use hll_arrays::array8::Array8;
 use hll_arrays::registers::Registers;
 use hll_base::error::Error;
@@ -238,7 +239,7 @@ impl<A: Allocator + Clone> HllUnion<A> {
 
     /// Adds the coupons after the header of a list or a set to registers, as `update_with_image` does, if one pass over a
     /// compact image has not shown that they are distinct.
-    // (not inlined: a caller would have to clear the room for compact coupons too)
+    // (not inlined: compact coupons need none of it)
     #[inline(never)]
     fn merge_other_coupons(&mut self, image: &[u8], header: Header) -> Result<(), Error>
         requires has { HasHeader image.now (stage_bits image.now) }
@@ -251,7 +252,7 @@ impl<A: Allocator + Clone> HllUnion<A> {
         ensures needed { IfErr result (λ e. e ≡ Memory → ImageNeedsMemory (gadget_of self.old) image.now) }
         ensures err { IfErr result (λ e. (e ≡ Memory) ⊎ (first_fault image.now ≡ Some e)) }
     {
-        let mut room = [0; ROOM];
+        let mut room = CouponRoom::new();
         match updatable_coupons(image, header, &mut room) {
             Some(coupons) => {
                 self.add_coupons(image, &coupons);

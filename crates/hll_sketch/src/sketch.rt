@@ -125,6 +125,7 @@ impl<A: Allocator> HllSketch<A> {
     /// Returns the table of its coupons, or `None` for registers.
     pub(crate) fn table(&self) -> Option<&Container<A>>
         ensures some { IfSome result (λ table. content_in self.now.layout ≡ coupons (coupons_of table.now) table.now.lg_size) }
+        ensures none { IfNone result (in_registers (content_in self.now.layout) ≡ true) }
         ensures legal { IfSome result (λ table. length (coupons_in table.now.buckets) < 2 ^ 19) }
     {
         match &self.mode {

@@ -10,9 +10,10 @@ ghost use Rattle.hll_sketch.specs.Image.{HasHeader, stage_bits};
 ghost use Rattle.hll_sketch.specs.MergedIn.{IsOfCoupons};
 ghost use Rattle.hll_sketch.specs.Updatable.{HasUpdatableCoupons};
 
+use crate::coupon_room::{CouponRoom, ROOM};
 use crate::header::Header;
 use crate::raw_coupons::{FEW, RawCoupons, counted_coupons};
-use crate::updatable::{ROOM, gathered_coupons, put};
+use crate::updatable::{gathered_coupons, put};
 use hll_base::cursor::SketchSlice;
 
 /// Returns the coupons of an image of a list or a set in ascending order. They are borrowed from the image if it is compact and
@@ -21,7 +22,7 @@ use hll_base::cursor::SketchSlice;
 pub(crate) fn coupons_in_order<'a>(
     bytes: &'a [u8],
     header: Header,
-    room: &'a mut [u8; ROOM],
+    room: &'a mut CouponRoom,
 ) -> Option<RawCoupons<'a>>
     requires has { HasHeader bytes.now (stage_bits bytes.now) }
     requires stage { stage_bits bytes.now < 3 }
@@ -44,12 +45,12 @@ pub(crate) fn coupons_in_order<'a>(
 
 /// Returns the coupons of an updatable image of a list or a set, sorted into `room`. Returns `None` unless there are 1 to
 /// `FEW`.
-// (not inlined: a caller would have to clear the gathered coupons at each of its own calls)
+// (not inlined: coupons that ascend don't need it)
 #[inline(never)]
 fn updatable_coupons_in_order<'a>(
     bytes: &[u8],
     header: Header,
-    room: &'a mut [u8; ROOM],
+    room: &'a mut CouponRoom,
 ) -> Option<RawCoupons<'a>>
     requires has { HasHeader bytes.now (stage_bits bytes.now) }
     requires stage { stage_bits bytes.now < 3 }
@@ -58,16 +59,16 @@ fn updatable_coupons_in_order<'a>(
     ensures ascend { IfSome result (λ w. IsStrictlyIncreasing (raw_coupons w.count w.bytes.now)) }
     ensures none { IfNone result (HasUpdatableCoupons bytes.now → ⊥) }
 {
-    let mut gathered = [0; ROOM];
+    let mut gathered = CouponRoom::new();
     let coupons = gathered_coupons(bytes, header, &mut gathered)?;
     sorted(coupons, room)
 }
 
-/// Sorts raw coupons, at most `FEW`, into the first bytes of `room`, and returns them. Returns `None` unless each has a value
+/// Sorts raw coupons, at most `FEW`, into `room`, and returns them. Returns `None` unless each has a value
 /// above 0, and no two are equal.
 // (not inlined: a caller would have to clear the numbers at each of its own calls)
 #[inline(never)]
-fn sorted<'a>(coupons: RawCoupons<'_>, room: &'a mut [u8; ROOM]) -> Option<RawCoupons<'a>>
+fn sorted<'a>(coupons: RawCoupons<'_>, room: &'a mut CouponRoom) -> Option<RawCoupons<'a>>
     requires few { coupons.count ≤ 128 }
     ensures some { IfSome result (λ w. IsAscending (raw_coupons w.count w.bytes.now) (set_of (raw_coupons coupons.entry.count coupons.entry.bytes.now))) }
     ensures are { OnSome result (AreCoupons (raw_coupons coupons.entry.count coupons.entry.bytes.now)) }
@@ -78,11 +79,11 @@ fn sorted<'a>(coupons: RawCoupons<'_>, room: &'a mut [u8; ROOM]) -> Option<RawCo
     sorted_numbers(&mut numbers[..coupons.count], room)
 }
 
-/// Sorts raw coupons, at most `FEW`, writes them to the first bytes of `room`, and returns them. Returns `None` unless each has
+/// Sorts raw coupons, at most `FEW`, writes them into `room`, and returns them. Returns `None` unless each has
 /// a value above 0, and no two are equal.
 pub(crate) fn sorted_numbers<'a>(
     numbers: &mut [u32],
-    room: &'a mut [u8; ROOM],
+    room: &'a mut CouponRoom,
 ) -> Option<RawCoupons<'a>>
     requires few { length numbers.old ≤ 128 }
     ensures some { IfSome result (λ w. IsAscending (raw_coupons w.count w.bytes.now) (set_of numbers.old)) }
@@ -91,9 +92,10 @@ pub(crate) fn sorted_numbers<'a>(
     ensures order { IsPermutation numbers.old numbers.new }
 {
     numbers.sort_unstable();
-    write_raw_coupons(numbers, room);
+    let bytes = room.cleared();
+    write_raw_coupons(numbers, bytes);
     let sorted = RawCoupons {
-        bytes: room,
+        bytes,
         count: numbers.len(),
     };
     if !sorted.ascend() {

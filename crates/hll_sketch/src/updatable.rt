@@ -9,6 +9,7 @@ ghost use Rattle.hll_sketch.specs.Image.{HasHeader, stage_bits};
 ghost use Rattle.hll_sketch.specs.MergedIn.{IsOfCoupons};
 ghost use Rattle.hll_sketch.specs.Updatable.{HoldCoupons, HasUpdatableCoupons};
 
+use crate::coupon_room::{CouponRoom, ROOM};
 use crate::header::{HEADER_SIZE, Header, Stage};
 use crate::raw_coupons::{FEW, RawCoupons};
 use hll_arrays::registers::two_to;
@@ -16,9 +17,6 @@ use hll_base::cursor::SketchSlice;
 use hll_coupons::serialization::{
     COUPON_SIZE_BYTES, LG_LEAST_SET_BUCKETS, LG_LIST_BUCKETS, LG_SET_BELOW_LG_K,
 };
-
-/// The number of bytes of `FEW` coupons.
-pub(crate) const ROOM: usize = COUPON_SIZE_BYTES * FEW;
 
 /// The buckets of a table, and the number of filled buckets that an image says: 1 to `FEW`.
 #[derive(Clone, Copy)]
@@ -88,14 +86,14 @@ pub(crate) fn put(room: &mut [u8; ROOM], count: usize, raw_coupon: u32)
     room[start..start + COUPON_SIZE_BYTES].copy_from_slice(&raw_coupon.to_le_bytes());
 }
 
-/// Returns the coupons of an updatable image of a list or a set, gathered in the first bytes of `room` in the order of their
+/// Returns the coupons of an updatable image of a list or a set, gathered in `room` in the order of their
 /// buckets. Returns `None` unless there are 1 to `FEW`.
-// (not inlined: a caller would have to clear the room for compact images too)
+// (not inlined: compact images don't need it)
 #[inline(never)]
 pub(crate) fn updatable_coupons<'a>(
     bytes: &[u8],
     header: Header,
-    room: &'a mut [u8; ROOM],
+    room: &'a mut CouponRoom,
 ) -> Option<RawCoupons<'a>>
     requires has { HasHeader bytes.now (stage_bits bytes.now) }
     requires stage { stage_bits bytes.now < 3 }
@@ -112,12 +110,12 @@ pub(crate) fn updatable_coupons<'a>(
     Some(coupons)
 }
 
-/// Returns the raw coupons in the buckets of an updatable image of a list or a set, gathered in the first bytes of `room` in
+/// Returns the raw coupons in the buckets of an updatable image of a list or a set, gathered in `room` in
 /// the order of their buckets. Returns `None` if a check other than that of coupons fails, or if they are not 1 to `FEW`.
 pub(crate) fn gathered_coupons<'a>(
     bytes: &[u8],
     header: Header,
-    room: &'a mut [u8; ROOM],
+    room: &'a mut CouponRoom,
 ) -> Option<RawCoupons<'a>>
     requires has { HasHeader bytes.now (stage_bits bytes.now) }
     requires stage { stage_bits bytes.now < 3 }
@@ -132,11 +130,12 @@ pub(crate) fn gathered_coupons<'a>(
         Stage::Set => set_buckets(bytes, header)?,
         Stage::Hll => return None,
     };
-    if !buckets.gather_filled(room) {
+    let bytes = room.cleared();
+    if !buckets.gather_filled(bytes) {
         return None;
     }
     Some(RawCoupons {
-        bytes: room,
+        bytes,
         count: buckets.filled,
     })
 }

@@ -2,7 +2,6 @@
 pub mod Distinct
 pub mod Emptiness
 pub mod Flattened
-pub mod FoldedInPlace
 pub mod Joining
 pub mod MergedImages
 pub mod MergedRegisters

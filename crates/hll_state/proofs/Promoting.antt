@@ -3,27 +3,14 @@
 use Rattle.std.proofs.Common.{◌≡◌, ℕ, ◌+◌, ◌*◌, ◌^◌, ◌<◌, ◌≤◌, zero, suc, List, [], ◌∷◌, length, drop, get_or, replicate, refl, sym, ap, ◌∙◌, arith}
 use Rattle.std.proofs.lemmas.List.{drop_more, drop_all}
 use Rattle.hll_base.specs.Join.{join}
-use Rattle.hll_base.proofs.Joins.{join_assoc, join_comm}
 use Rattle.hll_coupons.specs.Fold.{fold_to}
 use Rattle.hll_coupons.specs.Pair.{Pairs, set_of}
 use Rattle.hll_coupons.proofs.Folds.{fold_to-union, fold_to-empty}
-use Rattle.hll_coupons.proofs.Unions.{insert-union, union-empty}
-use Rattle.hll_registers.proofs.Folding.{folded, folded-none}
+use Rattle.hll_coupons.proofs.Unions.{union-empty}
+use Rattle.hll_sketch.proofs.MaxBytes.{joined-nil, joined-more}
 use Rattle.hll_state.specs.Registers.{values}
 
 -- ---- coupons in turn
-
-joined-nil : (V : List ℕ) (k : ℕ) → length V ≡ 2 ^ k → V ≡ join V (fold_to (set_of []) k)
-joined-nil V k size =
-    let nothing : 0 * 2 ^ k ≡ 0 = omega arith in
-    folded-none V [] k size ∙ ap (λ m. join V (folded [] k m)) nothing
-
-joined-more : (V W : List ℕ) (c : ℕ) (cs : List ℕ) (k : ℕ) → W ≡ join V (fold_to (set_of (c ∷ [])) k) → join W (fold_to (set_of cs) k) ≡ join V (fold_to (set_of (c ∷ cs)) k)
-joined-more V W c cs k is =
-    let one : List ℕ = fold_to (set_of (c ∷ [])) k in
-    let others : List ℕ = fold_to (set_of cs) k in
-    ap (λ X. join X others) is ∙ join_assoc V one others
-    ∙ ap (join V) (join_comm one others ∙ sym (fold_to-union (set_of cs) (set_of (c ∷ [])) k) ∙ ap (λ S. fold_to S k) (sym (insert-union (set_of cs) c)))
 
 -- one coupon was added
 pub coupons_more : (k : ℕ) (now next coupons : List ℕ) (i : ℕ) (all : List ℕ) → i < length coupons → join now (fold_to (set_of (drop i coupons)) k) ≡ all

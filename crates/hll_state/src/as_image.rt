@@ -80,7 +80,7 @@ fn registers_of<'a>(
 
 impl CouponTable {
     /// Returns the size of the table of resolved coupons at an `lg_k`.
-    fn resolved_size(&self, lg_k: u8) -> u8
+    pub fn resolved_size(&self, lg_k: u8) -> u8
         requires { IsLgK lg_k }
         ensures kept { self.now.added ≡ false → result ≡ self.now.lg_size }
         ensures staged { self.now.added ≡ true → stages.stage lg_k self.now.lg_size self.now.run.used ≢ None → stages.stage lg_k self.now.lg_size self.now.run.used ≡ Some result }

@@ -47,8 +47,9 @@ impl Header {
         ensures within { IsWithin self.new (length body.old) }
         ensures joined { IsJoined bounded widths (sketch_of_borrowed image.now) self.old body.old self.new body.new result }
     {
-        let widths = self.widths_after(widths, image.is_empty());
-        if image.is_empty() {
+        let is_empty = image.is_empty();
+        let widths = self.widths_after(widths, is_empty);
+        if is_empty {
             self.join_empty(bounded, widths, image.lg_k());
             return Joined::Done;
         }

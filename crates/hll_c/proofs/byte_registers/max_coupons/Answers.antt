@@ -3,7 +3,7 @@ use Rattle.std.proofs.Common.{◌≡◌, ℕ, ◌/◌, ◌^◌, ◌∷◌, [], g
 use Rattle.hll_base.specs.Join.{join}
 use Rattle.hll_coupons.specs.Fold.{fold_to}
 use Rattle.hll_coupons.specs.Pair.{set_of, slot_of, pair}
-use Rattle.hll_c.proofs.MaxValues.{coupons_more, coupons_all}
+use Rattle.hll_state.proofs.Promoting.{coupons_more, coupons_all}
 use Rattle.hll_c.proofs.byte_registers.max_coupons.Goals as goal
 
 pub loop-raw-init : goal.loop-raw-init

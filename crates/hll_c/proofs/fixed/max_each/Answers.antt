@@ -4,7 +4,7 @@ use Rattle.hll_base.specs.Join.{join}
 use Rattle.hll_coupons.specs.Fold.{fold_to}
 use Rattle.hll_coupons.specs.Hashed.{coupon_of_bytes}
 use Rattle.hll_coupons.specs.Pair.{set_of}
-use Rattle.hll_c.proofs.MaxValues.{coupons_more, coupons_all}
+use Rattle.hll_state.proofs.Promoting.{coupons_more, coupons_all}
 use Rattle.hll_c.proofs.Strings.{string_of_length, coupons_by, length-coupons_by, coupon_at, of_length_within, one_length}
 use Rattle.hll_c.proofs.fixed.max_each.Goals as goal
 

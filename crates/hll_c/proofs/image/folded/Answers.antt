@@ -1,14 +1,15 @@
 -- SPDX-License-Identifier: Apache-2.0
-use Rattle.std.proofs.Common.{◌∙◌, sym, ap, subst}
+use Rattle.std.proofs.Common.{subst}
+use Rattle.std.specs.Option.{IfSome}
+use Rattle.std.proofs.lemmas.Result.{IfOk-weaker, IfErr-weaker}
 use Rattle.hll_base.proofs.Errors.{IfErr-passed}
-use Rattle.hll_sketch.specs.Folding.{folded, IsFoldLgK}
+use Rattle.hll_sketch.specs.CouponImages.{IsFoldedImage}
 use Rattle.hll_sketch.specs.Layout.{sketch_of}
 use Rattle.hll_sketch.specs.Value.{IsLgK}
-use Rattle.hll_sketch.proofs.FirstFailing.{IfErr-with}
-use Rattle.hll_c.specs.Answers.{image_refused}
+use Rattle.hll_c.specs.Answers.{IsImageOf, WithFields, image_refused}
 use Rattle.hll_c.specs.Calls.{IsMadeOf, IsFoldOf, RefusesFold, with}
-use Rattle.hll_c.proofs.Answers.{IfOk-with}
-use Rattle.hll_c.proofs.Images.{refuses_argument, refuses_image, refuses_fold}
+use Rattle.hll_c.proofs.Answers.{made_with_fields}
+use Rattle.hll_c.proofs.Images.{fold_in_bytes, refuses_argument, refuses_memory}
 use Rattle.hll_c.proofs.image.folded.Goals as goal
 
 pub returns-in_err-target-clause-err : goal.returns-in_err-target-clause-err
@@ -17,31 +18,33 @@ returns-in_err-target-clause-err c =
     IfErr-passed (RefusesFold c.args.lg_k c.args.image.now) c.from_residual.result e.field-0.0 c.from_residual.ensures.1
     (with (refuses_argument (IsLgK c.args.lg_k) c.args.image.now e.field-0.0 e.ensures.outside.0 e.ensures.outside.1))
 
-pub returns-in_err-deserialize-clause-err : goal.returns-in_err-deserialize-clause-err
-returns-in_err-deserialize-clause-err c =
-    let e = c.in_err-deserialize in
-    IfErr-passed (RefusesFold c.args.lg_k c.args.image.now) c.from_residual-in_err-deserialize.result e.field-0.0 c.from_residual-in_err-deserialize.ensures.1
-    (with (image_refused c.in_ok-target.ensures.ok.1 (refuses_image c.args.image.now e.field-0.0 e.ensures.order e.ensures.asked)))
+pub returns-in_err-written-clause-err : goal.returns-in_err-written-clause-err
+returns-in_err-written-clause-err c =
+    let e = c.in_err-written in
+    IfErr-passed (RefusesFold c.args.lg_k c.args.image.now) c.from_residual-in_err-written.result e.field-0.0 c.from_residual-in_err-written.ensures.1
+    (with (image_refused c.in_ok-target.ensures.ok.1 (refuses_memory c.args.image.now e.ensures.read.0 e.field-0.0 e.ensures.read.1 e.ensures.err)))
 
-pub returns-clause-ok : goal.returns-clause-ok
-returns-clause-ok c =
-    let x = sketch_of c.in_ok-deserialize.field-0 in
-    IfOk-with c.folded-2.result _ _ (λ s. IsMadeOf c.args.image.now (IsFoldOf c.args.lg_k) (sketch_of s))
-    (λ s made fold. record {
-      sketch = x;
-      read = c.in_ok-deserialize.ensures.ok;
-      is_made = record {
-        lg_k_is = c.in_ok-target.ensures.ok.1;
-        within = subst (IsFoldLgK x.lg_k) c.in_ok-target.ensures.ok.0 fold;
-        is = made ∙ ap (folded x) c.in_ok-target.ensures.ok.0;
-      };
-    })
-    c.folded-2.ensures.ok c.folded-2.ensures.lg_k
+pub returns-in-Some-clause-ok : goal.returns-in-Some-clause-ok
+returns-in-Some-clause-ok c =
+    fold_in_bytes c.args.lg_k c.in_ok-target.target c.args.image.now c.in-Some.written.items c.in_ok-target.ensures.ok.1 c.in_ok-target.ensures.ok.0
+    (subst (λ o. IfSome o (λ written. IsFoldedImage c.in_ok-target.target c.args.image.now written.items)) c.in-Some.is c.in_ok-written.ensures.some)
 
-pub returns-clause-err : goal.returns-clause-err
-returns-clause-err c =
-    let x = sketch_of c.in_ok-deserialize.field-0 in
-    IfErr-with c.folded-2.result _ _ (RefusesFold c.args.lg_k c.args.image.now)
-    (λ e kind outside. refuses_fold c.args.image.now x c.args.lg_k e c.in_ok-target.ensures.ok.1 c.in_ok-deserialize.ensures.ok kind
-    (λ a fold. outside a (subst (IsFoldLgK x.lg_k) (sym c.in_ok-target.ensures.ok.0) fold)))
-    c.folded-2.ensures.err c.folded-2.ensures.outside
+pub returns-in_err-folded_sketch-in-None-clause-err : goal.returns-in_err-folded_sketch-in-None-clause-err
+returns-in_err-folded_sketch-in-None-clause-err c =
+    let e = c.in_err-folded_sketch-in-None in
+    IfErr-passed (RefusesFold c.args.lg_k c.args.image.now) c.from_residual-in_err-folded_sketch-in-None.result e.field-0.0 c.from_residual-in_err-folded_sketch-in-None.ensures.1
+    (subst (λ k. RefusesFold k c.args.image.now e.field-0.0) c.in_ok-target.ensures.ok.0 e.ensures.err)
+
+pub returns-in_ok-folded_sketch-in-None-clause-ok : goal.returns-in_ok-folded_sketch-in-None-clause-ok
+returns-in_ok-folded_sketch-in-None-clause-ok c =
+    let Made = IsMadeOf c.args.image.now (IsFoldOf c.args.lg_k) in
+    let y = sketch_of c.in_ok-folded_sketch-in-None.field-0 in
+    let made = subst (λ k. IsMadeOf c.args.image.now (IsFoldOf k) y) c.in_ok-target.ensures.ok.0 c.in_ok-folded_sketch-in-None.ensures.ok in
+    IfOk-weaker c.image_with_fields.result _ (λ v. IsImageOf (WithFields Made) v.items) (λ v is. made_with_fields Made y v.items made is) c.image_with_fields.ensures.ok
+
+pub returns-in_ok-folded_sketch-in-None-clause-err : goal.returns-in_ok-folded_sketch-in-None-clause-err
+returns-in_ok-folded_sketch-in-None-clause-err c =
+    let made = c.in_ok-folded_sketch-in-None.ensures.ok in
+    IfErr-weaker c.image_with_fields.result _ (RefusesFold c.args.lg_k c.args.image.now)
+    (λ e memory. with (image_refused c.in_ok-target.ensures.ok.1 (refuses_memory c.args.image.now made.sketch e made.read memory)))
+    c.image_with_fields.ensures.err

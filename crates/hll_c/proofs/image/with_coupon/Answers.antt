@@ -1,25 +1,66 @@
 -- SPDX-License-Identifier: Apache-2.0
+use Rattle.std.proofs.Common.{◌≡◌, ℕ, [], ◌∷◌, ap, subst, ◌∙◌, arith}
+use Rattle.std.specs.Option.{IfSome}
+use Rattle.std.proofs.lemmas.Result.{IfOk-weaker, IfErr-weaker}
 use Rattle.hll_base.proofs.Errors.{IfErr-passed}
+use Rattle.hll_coupons.specs.Pair.{pair, set_of, slot_of}
+use Rattle.hll_sketch.specs.Adding.{add}
+use Rattle.hll_sketch.specs.CouponImages.{IsImageWith}
 use Rattle.hll_sketch.specs.Layout.{sketch_of}
-use Rattle.hll_c.specs.Answers.{RefusesWith, image_refused}
-use Rattle.hll_c.specs.Calls.{AreOfCoupon}
+use Rattle.hll_c.specs.Answers.{IsImageOf, WithFields, RefusesWith, image_refused}
+use Rattle.hll_c.specs.Calls.{AreOfCoupon, HasCoupon, IsMadeOf}
+use Rattle.hll_c.proofs.Answers.{made_with_fields}
 use Rattle.hll_c.proofs.Batches.{not_so}
-use Rattle.hll_c.proofs.Images.{refuses_argument, refuses_image, refuses_memory}
+use Rattle.hll_c.proofs.Images.{coupon_in_bytes, refuses_argument, refuses_memory}
 use Rattle.hll_c.proofs.image.with_coupon.Goals as goal
+
+-- the slot is below 2^26, so it is the slot of the coupon
+packed : (slot value coupon : ℕ) → AreOfCoupon slot value → coupon ≡ pair (slot_of slot) value → coupon ≡ pair slot value
+packed slot value coupon are is = is ∙ ap (λ s. pair s value) (let e : slot_of slot ≡ slot = omega (arith, are.slot_is) in e)
 
 pub returns-then-not-are_of_coupon-clause-err : goal.returns-then-not-are_of_coupon-clause-err
 returns-then-not-are_of_coupon-clause-err c =
     let Are = AreOfCoupon c.args.slot c.args.value in
     refuses_argument Are c.args.image.now c.new.result c.new.ensures (not_so c.are_of_coupon.result Are c.if-not-are_of_coupon.true c.are_of_coupon.ensures)
 
-pub returns-in_err-sketch-clause-err : goal.returns-in_err-sketch-clause-err
-returns-in_err-sketch-clause-err c =
-    let e = c.in_err-sketch in
+pub returns-in_err-written-clause-err : goal.returns-in_err-written-clause-err
+returns-in_err-written-clause-err c =
+    let e = c.in_err-written in
     IfErr-passed (RefusesWith (AreOfCoupon c.args.slot c.args.value) c.args.image.now) c.from_residual.result e.field-0.0 c.from_residual.ensures.1
-    (image_refused (c.are_of_coupon.ensures.0 c.if-not-are_of_coupon.false) (refuses_image c.args.image.now e.field-0.0 e.ensures.order e.ensures.asked))
+    (image_refused (c.are_of_coupon.ensures.0 c.if-not-are_of_coupon.false) (refuses_memory c.args.image.now e.ensures.read.0 e.field-0.0 e.ensures.read.1 e.ensures.err))
 
-pub returns-in_err-update_with_coupon-clause-err : goal.returns-in_err-update_with_coupon-clause-err
-returns-in_err-update_with_coupon-clause-err c =
-    let e = c.in_err-update_with_coupon in
-    IfErr-passed (RefusesWith (AreOfCoupon c.args.slot c.args.value) c.args.image.now) c.from_residual-in_err-update_with_coupon.result e.field-0.0 c.from_residual-in_err-update_with_coupon.ensures.1
-    (image_refused (c.are_of_coupon.ensures.0 c.if-not-are_of_coupon.false) (refuses_memory c.args.image.now (sketch_of c.in_ok-sketch.sketch) e.field-0.0 c.in_ok-sketch.ensures.ok e.ensures.err))
+pub returns-in-Some-clause-ok : goal.returns-in-Some-clause-ok
+returns-in-Some-clause-ok c =
+    coupon_in_bytes c.args.slot c.args.value c.raw.result c.args.image.now c.in-Some.written.items (c.are_of_coupon.ensures.0 c.if-not-are_of_coupon.false) (c.raw.ensures ∙ packed c.args.slot c.args.value c.pack-coupon.result (c.are_of_coupon.ensures.0 c.if-not-are_of_coupon.false) c.pack-coupon.ensures)
+    (subst (λ o. IfSome o (λ written. IsImageWith (c.raw.result ∷ []) c.args.image.now written.items)) c.in-Some.is c.in_ok-written.ensures.some)
+
+pub returns-in_err-sketch_with_coupon-in-None-clause-err : goal.returns-in_err-sketch_with_coupon-in-None-clause-err
+returns-in_err-sketch_with_coupon-in-None-clause-err c =
+    let e = c.in_err-sketch_with_coupon-in-None in
+    IfErr-passed (RefusesWith (AreOfCoupon c.args.slot c.args.value) c.args.image.now) c.from_residual-in_err-sketch_with_coupon-in-None.result e.field-0.0 c.from_residual-in_err-sketch_with_coupon-in-None.ensures.1
+    (image_refused (c.are_of_coupon.ensures.0 c.if-not-are_of_coupon.false) e.ensures.err)
+
+pub returns-in_ok-sketch_with_coupon-in-None-clause-ok : goal.returns-in_ok-sketch_with_coupon-in-None-clause-ok
+returns-in_ok-sketch_with_coupon-in-None-clause-ok c =
+    let Made = IsMadeOf c.args.image.now (HasCoupon c.args.slot c.args.value) in
+    let y = sketch_of c.in_ok-sketch_with_coupon-in-None.field-0 in
+    let made = c.in_ok-sketch_with_coupon-in-None.ensures.ok in
+    IfOk-weaker c.image_with_fields.result _ (λ v. IsImageOf (WithFields Made) v.items)
+    (λ v is. made_with_fields Made y v.items
+    (record {
+      sketch = made.sketch;
+      read = made.read;
+      is_made = record {
+        are = c.are_of_coupon.ensures.0 c.if-not-are_of_coupon.false;
+        is = made.is_made ∙ ap (λ n. add made.sketch (set_of (n ∷ []))) (packed c.args.slot c.args.value c.pack-coupon.result (c.are_of_coupon.ensures.0 c.if-not-are_of_coupon.false) c.pack-coupon.ensures);
+      };
+    })
+    is)
+    c.image_with_fields.ensures.ok
+
+pub returns-in_ok-sketch_with_coupon-in-None-clause-err : goal.returns-in_ok-sketch_with_coupon-in-None-clause-err
+returns-in_ok-sketch_with_coupon-in-None-clause-err c =
+    let made = c.in_ok-sketch_with_coupon-in-None.ensures.ok in
+    IfErr-weaker c.image_with_fields.result _ (RefusesWith (AreOfCoupon c.args.slot c.args.value) c.args.image.now)
+    (λ e memory. image_refused (c.are_of_coupon.ensures.0 c.if-not-are_of_coupon.false) (refuses_memory c.args.image.now made.sketch e made.read memory))
+    c.image_with_fields.ensures.err

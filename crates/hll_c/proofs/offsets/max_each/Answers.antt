@@ -3,7 +3,7 @@ use Rattle.std.proofs.Common.{arith, ◌∷◌, [], ◌-◌, ℕ, length, ◌∙
 use Rattle.hll_base.specs.Join.{join}
 use Rattle.hll_coupons.specs.Fold.{fold_to}
 use Rattle.hll_coupons.specs.Pair.{set_of}
-use Rattle.hll_c.proofs.MaxValues.{coupons_more, coupons_all}
+use Rattle.hll_state.proofs.Promoting.{coupons_more, coupons_all}
 use Rattle.hll_c.proofs.Strings.{string_between, coupons_by, length-coupons_by, coupon_at, between_within}
 use Rattle.hll_c.proofs.offsets.max_each.Goals as goal
 

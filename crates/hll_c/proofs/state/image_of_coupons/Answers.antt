@@ -20,8 +20,8 @@ coupon_image-requires-clause-table c =
     let S : Pairs = members t.run c.args.body.now in
     let w = c.as_bytes.ensures.written in
     let count : t.run.used ≡ length w.order = resolved_count t.run c.args.body.now (used_within k t.run.used (length c.args.body.now) c.requires.within.used c.requires.within.there) c.requires.resolved.ascends ∙ sym (len-ascending w.order S w.ascending) in
-    let table : HasTable k t t.run.used c.lg_size_of.result = record { taken = c.lg_size_of.ensures.taken; added = c.lg_size_of.ensures.added } in
-    (w.order, w.is, subst (λ n. IsTableFor k n c.lg_size_of.result) count (table_for k t t.run.used c.lg_size_of.result table c.requires.within.taken))
+    let table : HasTable k t t.run.used c.resolved_size.result = record { taken = c.resolved_size.ensures.kept; added = λ more. c.resolved_size.ensures.staged more (c.requires.resolved.stays more) } in
+    (w.order, w.is, subst (λ n. IsTableFor k n c.resolved_size.result) count (table_for k t t.run.used c.resolved_size.result table c.requires.within.taken))
 
 pub returns-clause-ok : goal.returns-clause-ok
 returns-clause-ok c =
@@ -30,8 +30,8 @@ returns-clause-ok c =
     let S : Pairs = members t.run c.args.body.now in
     let w = c.as_bytes.ensures.written in
     let count = resolved_count t.run c.args.body.now (used_within k t.run.used (length c.args.body.now) c.requires.within.used c.requires.within.there) c.requires.resolved.ascends in
-    let table : HasTable k t t.run.used c.lg_size_of.result = record { taken = c.lg_size_of.ensures.taken; added = c.lg_size_of.ensures.added } in
+    let table : HasTable k t t.run.used c.resolved_size.result = record { taken = c.resolved_size.ensures.kept; added = λ more. c.resolved_size.ensures.staged more (c.requires.resolved.stays more) } in
     IfOk-weaker c.coupon_image.result _ (λ image. IsImageOf (FillsFields (record { lg_k = k; width = c.args.hll_type; content = content_of_coupons k t S })) image.items)
-    (λ image wrote. coupons_written k c.args.hll_type (content_of_coupons k t S) S c.lg_size_of.result c.as_bytes.result.now w.order image.items
-    (content_in_table k t S t.run.used c.lg_size_of.result table count) w.ascending w.is wrote)
+    (λ image wrote. coupons_written k c.args.hll_type (content_of_coupons k t S) S c.resolved_size.result c.as_bytes.result.now w.order image.items
+    (content_in_table k t S t.run.used c.resolved_size.result table count) w.ascending w.is wrote)
     c.coupon_image.ensures.ok

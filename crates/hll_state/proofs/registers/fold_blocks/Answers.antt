@@ -7,7 +7,7 @@ use Rattle.hll_base.specs.Join.{join}
 use Rattle.hll_coupons.specs.Fold.{fold_to, pairs}
 use Rattle.hll_registers.proofs.Folding.{folded}
 use Rattle.hll_state.specs.Registers.{values}
-use Rattle.hll_state.proofs.FoldedInPlace.{first_block, block_there, next_block, all_blocks}
+use Rattle.hll_sketch.proofs.FoldedInPlace.{first_block, block_there, next_block, all_blocks}
 use Rattle.hll_state.proofs.Parts.{HaveFour-drop, values-take, values-drop}
 use Rattle.hll_state.proofs.Values.{HaveFour, length-values, four_each}
 use Rattle.hll_state.proofs.registers.fold_blocks.Goals as goal

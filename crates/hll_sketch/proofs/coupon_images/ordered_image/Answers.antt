@@ -6,7 +6,7 @@ use Rattle.hll_sketch.specs.CouponImages.{HasEvidentCoupons}
 use Rattle.hll_sketch.specs.declared.header.Header.{Header}
 use Rattle.hll_sketch.proofs.CouponImages.{in_order, width_in_header}
 use Rattle.hll_sketch.proofs.FirstFailing.{failing_before}
-use Rattle.hll_sketch.proofs.coupon_images.sorted_image.Goals as goal
+use Rattle.hll_sketch.proofs.coupon_images.ordered_image.Goals as goal
 
 pub returns-clause-some : goal.returns-clause-some
 returns-clause-some c =
