@@ -1,0 +1,85 @@
+#!/usr/bin/env python3
+# SPDX-License-Identifier: Apache-2.0
+"""Makes the first inputs of the fuzz target from the test vectors and the walks: corpus.py DIRECTORY.
+
+Each plan is one input: its images, its coupons added to an image, to a state and to a counter, and its unions and folds. A file is
+named by the checksum of its bytes, as libFuzzer names files.
+"""
+import hashlib
+import pathlib
+import struct
+import sys
+
+sys.dont_write_bytecode = True
+sys.path.insert(0, str(pathlib.Path(__file__).resolve().parent.parent))
+from rows import rows_in, texts
+
+IMAGE, UNION, CHAIN, REGISTERS, STATE, COUNTER = 0, 2, 3, 4, 5, 7
+IMAGES = 8
+
+
+def record(kind, numbers, content):
+    """One call: its kind, three numbers, and bytes."""
+    return bytes([kind, *numbers]) + struct.pack("<H", len(content)) + content
+
+
+def of_coupons(coupons):
+    """Coupons that are added to a state, to a counter and to registers."""
+    content = struct.pack("<%dI" % len(coupons), *coupons)
+    calls = record(STATE, (2, 0, 2), content) + record(STATE, (20, 2, 0), b"")
+    calls += record(COUNTER, (6, 2, 0), content) + record(COUNTER, (18, 0, 0), b"")
+    return calls + record(REGISTERS, (2, 0, 2), content) + record(REGISTERS, (12, 1, 0), b"")
+
+
+def of_union(count, bound, width):
+    """A union of the last images, also by a state and by a counter."""
+    places = bytes(reversed([(IMAGES - 1 - place) % IMAGES for place in range(min(count, IMAGES))]))
+    calls = record(UNION, (bound, (width - 4) // 2, 3), places)
+    calls += record(CHAIN, (bound - 4, (width - 4) // 2, 0), places)
+    for place in places:
+        calls += record(STATE, (8, bound, place), b"") + record(COUNTER, (8, 0, place), b"")
+    return calls
+
+
+def numbers_of(words):
+    """The numbers of a line, if each word is a small one."""
+    return [int(word) for word in words] if all(word.isdigit() and len(word) <= 8 for word in words) else []
+
+
+def of_line(line, coupons):
+    """The calls of a line. Coupons are kept for the end."""
+    first, *words = line.split(b" ")
+    try:
+        content = bytes.fromhex(words[0].decode()) if first == b"image" and words else b""
+    except ValueError:
+        content = b""
+    numbers = numbers_of(words)
+    if first == b"image" and len(content) < 2**16:
+        return record(IMAGE, (4, 8, 9), content)
+    if first == b"coupon" and len(numbers) == 2 and numbers[0] < 2**26 and numbers[1] < 64:
+        coupons.append(numbers[1] << 26 | numbers[0])
+    if first == b"union" and len(numbers) == 3 and 4 <= numbers[1] <= 21 and numbers[2] in (4, 6, 8):
+        return of_union(*numbers)
+    if first == b"new" and len(numbers) == 2 and numbers[0] <= 21:
+        return record(STATE, (0, numbers[0], 40), b"") + record(COUNTER, (0, numbers[0], 0), b"")
+    return b""
+
+
+def input_of(plan):
+    coupons = []
+    calls = b"".join(of_line(line, coupons) for line in plan.split(b"\n"))
+    return calls + of_coupons(coupons) if coupons else calls
+
+
+def main():
+    place = pathlib.Path(sys.argv[1])
+    place.mkdir(parents=True, exist_ok=True)
+    inputs = {input_of(plan) for path in texts() for plan, _, _ in rows_in(path)} - {b""}
+    for content in inputs:
+        (place / hashlib.sha1(content).hexdigest()).write_bytes(content)
+    print("%d passed, %d failed" % (len(inputs), not inputs))
+    return not inputs
+
+
+if __name__ == "__main__":
+    sys.exit(main())
