@@ -351,12 +351,35 @@ static void check_state_estimate(world *w, int i)
     free_before(&b);
 }
 
+/* Each call rejects a copy of a state that lacks some of its last bytes, and reads nothing after it. */
+static void check_cut(const before *b, size_t room, const held *h)
+{
+    uint8_t *copy = edge(EDGE_SPARE, room), out[8], other[HLL_STATE_NEW];
+    uint32_t coupon = 1u << 26;
+    size_t size, end = 0;
+    hll_estimation found;
+    hll_state_summary said;
+    memcpy(copy, b->bytes, room);
+    CHECK(hll_state_info(copy, room, &said, sizeof said) == HLL_ARGUMENT &&
+              hll_state_estimate(copy, room, &found) == HLL_ARGUMENT &&
+              hll_state_image(copy, room, 8, out, sizeof out, &size) == HLL_ARGUMENT &&
+              hll_state_add(copy, room, &size, NULL, 0, &end, 1) == HLL_ARGUMENT &&
+              hll_state_add_value(copy, room, &size, NULL, 0) == HLL_ARGUMENT &&
+              hll_state_add_coupons(copy, room, &size, &coupon, 1) == HLL_ARGUMENT &&
+              hll_state_join(0, copy, room, &size, h->at, h->len) == HLL_ARGUMENT &&
+              hll_state_new(12, other, sizeof other) == HLL_OK &&
+              hll_state_join_state(0, copy, room, &size, other, sizeof other) == HLL_ARGUMENT &&
+              hll_state_join_state(0, other, sizeof other, &size, copy, room) == HLL_ARGUMENT,
+          "%zu bytes of a state", room);
+    CHECK(memcmp(copy, b->bytes, room) == 0, "%zu bytes of a state were changed", room);
+}
+
 /* A copy of the bytes that a state takes is the same state, and a copy of fewer is none. */
-static void check_prefix(const world *w, int i)
+static void check_prefix(const world *w, int i, const held *h)
 {
     before b = look(w, i);
     hll_state_summary said, copied;
-    size_t size;
+    size_t size, cut;
     uint8_t *copy;
     if (b.is_state) {
         size = bytes_for(&b.s, 0);
@@ -366,10 +389,21 @@ static void check_prefix(const world *w, int i)
                   hll_state_info(w->states[i], w->rooms[i], &said, sizeof said) == HLL_OK && copied.size == said.size &&
                   copied.lg_k == said.lg_k && copied.stage == said.stage && copied.is_empty == said.is_empty,
               "a prefix of %zu bytes", size);
-        copy = edge(EDGE_SPARE, size - 1);
-        memcpy(copy, w->states[i], size - 1);
-        CHECK(hll_state_info(copy, size - 1, &copied, sizeof copied) == HLL_ARGUMENT, "a prefix of one byte less");
+        for (cut = 1; cut <= 4; cut++)
+            check_cut(&b, size - cut, h);
     }
+    free_before(&b);
+}
+
+/* Moves a state to exactly the room that it takes and a few bytes more or fewer, to a part of its room, or to more. */
+static void move_somewhere(world *w, int i, const record *r)
+{
+    before b = look(w, i);
+    size_t room = w->rooms[i];
+    if (b.is_state && r->c % 4 < 2)
+        move_state(w, i, bytes_for(&b.s, 0) + r->b % 8u - 3);
+    else if (room >= HLL_STATE_NEW)
+        move_state(w, i, r->c % 4 == 2 ? room + r->b : room - (room - HLL_STATE_NEW) * r->b / 255);
     free_before(&b);
 }
 
@@ -434,14 +468,13 @@ void on_state(world *w, const record *r)
         damage(w, i, r);
         break;
     case 8:
-        if (w->rooms[i] >= 40)
-            move_state(w, i, r->c & 128 ? w->rooms[i] + r->b : w->rooms[i] - (w->rooms[i] - 40) * r->b / 255);
+        move_somewhere(w, i, r);
         break;
     case 9:
         check_state_estimate(w, i);
         break;
     case 10:
-        check_prefix(w, i);
+        check_prefix(w, i, h);
         break;
     default:
         check_state_image(w, i, r->b % 16 == 15 ? r->c : 4u + 2u * (r->b % 3u));
