@@ -101,15 +101,28 @@ typedef struct call {
     int have_values;
     held *images[IMAGES];
     hll_bytes parts[IMAGES];
-    size_t n, failed;
+    size_t n, failed, added;
 } call;
+
+/* Adds values one by one, and counts those that are added. */
+static hll_status add_each(call *c, hll_counter *counter)
+{
+    size_t n = c->values.is_argument ? 1 : c->values.n, first = 0;
+    hll_status status = HLL_OK;
+    while (c->added < n && status == HLL_OK) {
+        status = hll_counter_add(counter, c->values.values + first, c->values.ends[c->added] - first);
+        first = c->values.ends[c->added];
+        c->added += status == HLL_OK;
+    }
+    return status;
+}
 
 static hll_status change(call *c)
 {
     hll_counter *counter = &c->w->counters[c->i].counter, *other = &c->w->counters[1 - c->i].counter;
     switch (c->kind) {
     case ADD:
-        return hll_counter_add(counter, c->values.values, c->values.len);
+        return add_each(c, counter);
     case ADD_MANY:
         return hll_counter_add_many(counter, c->values.values, c->values.len, c->values.ends, c->values.n);
     case ADD_COUPONS:
@@ -159,14 +172,12 @@ static int called(call *c)
 static int change_plainly(call *c, counted *m)
 {
     const counted *other = &c->w->counters[1 - c->i];
-    uint32_t coupon;
     size_t i;
     int status = 0;
     switch (c->kind) {
     case ADD:
-        coupon = plain_coupon(c->values.values, c->values.len);
-        plain_add(&m->x, &coupon, m->is_open ? 0 : 1);
-        return m->is_open ? HLL_ARGUMENT : 0;
+        plain_add(&m->x, c->values.coupons, c->added);
+        return m->is_open && c->values.n > 0 ? HLL_ARGUMENT : 0;
     case ADD_MANY:
         status = m->is_open || c->values.is_argument ? HLL_ARGUMENT : 0;
         plain_add(&m->x, c->values.coupons, status != 0 ? 0 : c->values.n);
@@ -211,6 +222,7 @@ static void replace_plainly(call *c, counted *m)
 static void check_info(const counted *m)
 {
     hll_state_summary said;
+    CHECK(hll_counter_info(&m->counter, &said, sizeof said - 1) == HLL_ARGUMENT, "hll_counter_info of another version");
     CHECK(hll_counter_info(&m->counter, &said, sizeof said) == HLL_OK, "hll_counter_info");
     CHECK(said.lg_k == m->x.lg_k && said.is_open == m->is_open && said.is_empty == plain_is_empty(&m->x),
           "lg_k %d, open %d, empty %d; plainly %u, %d, %d", said.lg_k, said.is_open, said.is_empty, m->x.lg_k, m->is_open,
@@ -219,13 +231,37 @@ static void check_info(const counted *m)
     CHECK(said.stage != HLL_REGISTERS || m->x.size == 0, "stage %d", said.stage);
 }
 
+/* A counter before a call that only reads it: the struct, and the bytes of its state. */
+typedef struct kept {
+    hll_counter counter;
+    uint8_t *bytes;
+} kept;
+
+static kept keep_counter(const counted *m)
+{
+    kept k;
+    k.counter = m->counter;
+    k.bytes = malloc(m->counter.room + 1);
+    if (m->counter.room > 0)
+        memcpy(k.bytes, m->counter.state, m->counter.room);
+    return k;
+}
+
+static void check_kept(const char *name, const counted *m, kept *k)
+{
+    CHECK(memcmp(&k->counter, &m->counter, sizeof k->counter) == 0, "%s changed the counter", name);
+    CHECK(m->counter.room == 0 || memcmp(k->bytes, m->counter.state, m->counter.room) == 0,
+          "%s changed the state of a counter", name);
+    free(k->bytes);
+}
+
 /* Checks the image of a counter, in exactly the room that it needs, and that reading leaves the struct. */
 static void check_image(const counted *m, unsigned width)
 {
     plain x = plain_copy(&m->x);
     uint8_t *image, *out;
     size_t len, size = 0;
-    hll_counter kept = m->counter;
+    kept k = keep_counter(m);
     x.width = is_width(width) ? width : 8;
     plain_fill(&x);
     image = malloc(plain_room(&x));
@@ -236,7 +272,7 @@ static void check_image(const counted *m, unsigned width)
               is_width(width) ? HLL_OK : HLL_ARGUMENT))
         CHECK(size == len && memcmp(out, image, len) == 0, "hll_counter_image: %zu bytes, plainly %zu", size, len);
     check_edge(EDGE_OUT, len);
-    CHECK(memcmp(&kept, &m->counter, sizeof kept) == 0, "hll_counter_image changed the counter");
+    check_kept("hll_counter_image", m, &k);
     free(image);
     plain_free(&x);
 }
@@ -244,9 +280,11 @@ static void check_image(const counted *m, unsigned width)
 static void check_estimate(const counted *m)
 {
     hll_estimation found;
+    kept k = keep_counter(m);
     begin();
     if (ended("hll_counter_estimate", hll_counter_estimate(&m->counter, &found), HLL_OK))
         check_estimation(&m->x, &found);
+    check_kept("hll_counter_estimate", m, &k);
 }
 
 /* ---- records ---- */
@@ -289,11 +327,12 @@ static void check_change(call *c)
     replace_plainly(c, m);
     CHECK(status == wanted || (heap.failed && (status == HLL_MEMORY || status == JUMPED)),
           "call %d on a counter: %d in place of %d", c->kind, status, wanted);
-    if (status != HLL_OK) { /* as it was */
+    if (status != HLL_OK) { /* as it was, with the values that were added before */
         hll_counter kept = m->counter;
         plain_free(&m->x);
         *m = old;
         m->counter = kept;
+        plain_add(&m->x, c->values.coupons, c->added);
     } else {
         plain_free(&old.x);
     }
@@ -313,7 +352,7 @@ void on_counter(world *w, const record *r)
     c.kind = r->a >> 1 & 15;
     if (!w->counters[0].is_begun) {
         start(&w->counters[0], 12);
-        start(&w->counters[1], 0);
+        start(&w->counters[1], 10);
     }
     if (c.kind == INIT)
         start(m, r->b % 32);

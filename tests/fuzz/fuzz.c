@@ -64,6 +64,7 @@ batch batch_of(const record *r)
     uint8_t *values;
     made.len = r->len == 2 ? 8 * (r->bytes[0] + 4u * r->bytes[1]) : r->len;
     step = r->len == 2 ? 8 : step;
+    made.step = step;
     made.n = (made.len + step - 1) / step;
     made.values = values = edge(EDGE_VALUES, made.len);
     for (i = 0; i < made.len; i++)
@@ -138,8 +139,8 @@ static void end_world(world *w)
 
 static void carry_out(world *w, const record *r)
 {
-    static void (*const parts[])(world *, const record *) = {on_image,     on_image, on_union, on_chain,
-                                                             on_registers, on_state, on_state, on_counter};
+    static void (*const parts[])(world *, const record *) = {on_image,     on_counter, on_union, on_chain,
+                                                             on_registers, on_state,   on_state, on_counter};
     static const uint8_t failing[] = {0, 0, 0, 0, 0, 1, 2, 4};
     heap.fail_from = failing[r->op >> 5];
     if (r->op % 32 == 8)

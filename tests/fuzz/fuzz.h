@@ -104,7 +104,7 @@ typedef struct record {
 /* Values, or coupons, of a record. */
 typedef struct batch {
     const uint8_t *values;
-    size_t len, n;
+    size_t len, n, step; /* the length of a value, if they have one length */
     size_t *ends;
     uint32_t *coupons; /* of the values, by the plain model */
     int is_argument;   /* whether the ends are out of range */

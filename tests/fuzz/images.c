@@ -314,6 +314,18 @@ static void check_estimate(const held *h)
         CHECK(is_pattern(&found, sizeof found), "hll_estimate changed *estimation");
 }
 
+/* Estimates of numbers of coupons that no image has. */
+static void check_many_coupons(uint64_t n)
+{
+    hll_estimation found;
+    int status = hll_coupons_estimate(n, &found), d;
+    CHECK(status == (n > (uint64_t)1 << 26 ? HLL_ARGUMENT : HLL_OK), "hll_coupons_estimate of %g: %d", (double)n, status);
+    for (d = 0; d < 3 && status == HLL_OK; d++)
+        CHECK((double)n <= found.lower[d] && found.lower[d] <= found.estimate && found.estimate <= found.upper[d],
+              "%g coupons: %g is not between %g and %g", (double)n, found.estimate, found.lower[d], found.upper[d]);
+    CHECK(hll_version() == HLL_VERSION_NUMBER, "the version is %u", hll_version());
+}
+
 /* Calls over one image. */
 void on_image(world *w, const record *r)
 {
@@ -330,8 +342,43 @@ void on_image(world *w, const record *r)
     check_fields(h, CLEAR_FIELDS);
     check_add_coupon(h, (uint32_t)r->a << 18 | (uint32_t)r->b << 8 | r->c, r->c % 65);
     check_new(r->a % 32, r->b % 16);
+    check_many_coupons((uint64_t)r->a << 19 | (uint64_t)r->b << 11 | r->c);
     if (h->reason != 0 || !is_heavy(r, h->x.lg_k))
         check_histogram(h);
+}
+
+/* Checks the status of a call that writes coupons, and the coupons: in the room that they need, and in less. */
+static void check_coupons(const char *call, const batch *b, hll_status status, int wanted, const uint32_t *coupons)
+{
+    CHECK(status == wanted, "%s: %d in place of %d", call, status, wanted);
+    if (status == HLL_OK)
+        CHECK(b->n == 0 || memcmp(coupons, b->coupons, 4 * b->n) == 0, "%s: other coupons", call);
+    else
+        CHECK(is_pattern(coupons, 4 * b->n), "%s changed its output", call);
+    check_edge(EDGE_OUT, 4 * b->n);
+    set_pattern((void *)coupons, 4 * b->n);
+}
+
+/* The coupons of values, by each call that writes them. */
+static void check_coupons_of(const batch *b)
+{
+    uint32_t *coupons = (uint32_t *)(void *)edge(EDGE_OUT, 4 * b->n);
+    int32_t *offsets = (int32_t *)(void *)edge(EDGE_SPARE, 4 * (b->n + 1));
+    int wanted = b->is_argument ? HLL_ARGUMENT : HLL_OK;
+    size_t i;
+    offsets[0] = 0;
+    for (i = 0; i < b->n; i++)
+        offsets[i + 1] = (int32_t)b->ends[i];
+    set_pattern(coupons, 4 * b->n);
+    check_coupons("hll_coupons", b, hll_coupons(b->values, b->len, b->ends, b->n, coupons, b->n), wanted, coupons);
+    check_coupons("hll_coupons_ends32", b, hll_coupons_ends32(b->values, b->len, offsets, b->n + 1, coupons, b->n), wanted,
+                  coupons);
+    wanted = b->len % b->step != 0 ? HLL_ARGUMENT : HLL_OK;
+    check_coupons("hll_coupons_fixed", b, hll_coupons_fixed(b->values, b->len, b->step, coupons, b->n), wanted, coupons);
+    if (b->n > 0 && wanted == HLL_OK)
+        check_coupons("hll_coupons_fixed", b, hll_coupons_fixed(b->values, b->len, b->step, coupons, b->n - 1), HLL_BUFFER,
+                      coupons);
+    CHECK(b->n == 0 || hll_coupon(b->values, b->ends[0]) == b->coupons[0], "hll_coupon: another coupon");
 }
 
 /* Values that are added to an image. */
@@ -342,6 +389,7 @@ void on_values(world *w, const record *r)
     call c = {0};
     plain x = {0};
     int reason = values.is_argument ? HLL_ARGUMENT : h->reason;
+    check_coupons_of(&values);
     c.kind = ADD;
     c.left = h;
     c.values = &values;
@@ -622,9 +670,13 @@ static hll_status add_registers(world *w, int i, const record *r, const batch *b
     offsets[0] = 0;
     for (j = 0; j < b->n; j++)
         offsets[j + 1] = (int32_t)b->ends[j];
-    if (r->c % 3 == 0)
+    if (r->c % 4 == 0)
         return hll_registers_add(w->registers[i], w->counts[i], b->values, b->len, b->ends, b->n);
-    if (r->c % 3 == 1)
+    if (r->c % 4 == 3) {
+        *wanted = b->len % b->step == 0 ? HLL_OK : HLL_ARGUMENT;
+        return hll_registers_add_fixed(w->registers[i], w->counts[i], b->values, b->len, b->step);
+    }
+    if (r->c % 4 == 1)
         return hll_registers_add_ends32(w->registers[i], w->counts[i], b->values, b->len, offsets, b->n + 1);
     *wanted = coupons_of(r, &coupons, &n) ? HLL_OK : HLL_ARGUMENT;
     return hll_registers_add_coupons(w->registers[i], w->counts[i], coupons, n);
@@ -643,7 +695,7 @@ static void check_adding(world *w, int i, const record *r)
     begin();
     status = add_registers(w, i, r, &b, &wanted);
     is_added = ended("calls that add to registers", status, wanted);
-    if (r->c % 3 == 2) {
+    if (r->c % 4 == 2) {
         (void)coupons_of(r, &coupons, &n);
         plain_add(&x, coupons, n);
     } else {

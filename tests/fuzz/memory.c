@@ -115,6 +115,7 @@ void begin(void)
 
 int ended(const char *call, hll_status status, int wanted)
 {
+    CHECK(hll_reason(status)[0] != '\0' && hll_message(status)[0] != '\0', "%s: %d has no word", call, status);
     CHECK(heap.live == heap.kept, "%s kept memory: %zu pieces, before %zu", call, heap.live, heap.kept);
     if (heap.failed)
         CHECK(status == HLL_MEMORY, "%s: %d, and an allocation failed", call, status);

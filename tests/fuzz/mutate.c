@@ -239,11 +239,13 @@ static void fresh(piece *p)
         p->head[i] = (uint8_t)below(256);
     if (below(4) != 0)
         p->head[0] &= 31;
+    if (below(5) == 0)
+        p->head[0] &= 0xe0; /* an image */
     p->bytes = malloc(MOST_PAYLOAD + 1);
     p->len = below(24);
     for (i = 0; i < 24; i++)
         p->bytes[i] = (uint8_t)below(256);
-    if (p->head[0] % 8 < 2)
+    if (p->head[0] % 8 == 0)
         renew(p);
     else if ((p->head[0] % 8 == 5 || p->head[0] % 8 == 6) && (p->head[1] >> 1 & 15) == 7 && p->head[3] % 2 == 0)
         p->len = some_state(p->bytes);
@@ -265,7 +267,7 @@ static void change(piece *p)
         p->len = spoil(p->bytes, p->len);
         break;
     case 4:
-        if (p->head[0] % 8 < 2)
+        if (p->head[0] % 8 == 0)
             renew(p);
         else
             p->len = below(4);

@@ -52,7 +52,8 @@ int main(int argc, char **argv)
     }
     if (argc == 1)
         run(stdin, "standard input");
-    printf("longest: %zu bytes; slowest: %.1f ms, %s\n", seen.longest, seen.slowest, seen.name != NULL ? seen.name : "none");
+    printf("longest: %zu bytes; slowest: %.1f ms, %s\n", seen.longest, seen.slowest,
+           seen.name != NULL ? seen.name : "none");
     printf("%d passed, 0 failed\n", argc == 1 ? 1 : argc - 1);
     return 0;
 }
