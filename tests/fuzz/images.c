@@ -115,7 +115,7 @@ static void check_convert(const held *h, unsigned width)
     c.left = h;
     c.width = width;
     if (width != 0 && !is_width(width)) {
-        written(&c, HLL_ARGUMENT, NULL);
+        written(&c, HLL_ARGUMENT, &x);
         return;
     }
     if (h->reason == 0) {

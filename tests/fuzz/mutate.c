@@ -34,6 +34,15 @@ typedef struct piece {
     size_t len;
 } piece;
 
+static unsigned taken;
+
+/* The memory of the next record, until the next mutation. */
+static uint8_t *some_bytes(void)
+{
+    static uint8_t all[MOST_RECORDS + 1][MOST_PAYLOAD + 1];
+    return all[taken++];
+}
+
 static size_t split(const uint8_t *data, size_t size, piece *pieces)
 {
     size_t n = 0, len;
@@ -41,7 +50,7 @@ static size_t split(const uint8_t *data, size_t size, piece *pieces)
         len = data[4] + 256u * data[5];
         len = len < size - HEADER ? len : size - HEADER;
         memcpy(pieces[n].head, data, 4);
-        pieces[n].bytes = malloc(MOST_PAYLOAD + 1);
+        pieces[n].bytes = some_bytes();
         memcpy(pieces[n].bytes, data + HEADER, len);
         pieces[n++].len = len;
         data += HEADER + len;
@@ -50,7 +59,7 @@ static size_t split(const uint8_t *data, size_t size, piece *pieces)
     return n;
 }
 
-/* Writes records as far as they have room, and frees them. */
+/* Writes records as far as they have room. */
 static size_t join(piece *pieces, size_t n, uint8_t *data, size_t most)
 {
     size_t size = 0, i;
@@ -62,7 +71,6 @@ static size_t join(piece *pieces, size_t n, uint8_t *data, size_t most)
             memcpy(data + size + HEADER, pieces[i].bytes, pieces[i].len);
             size += HEADER + pieces[i].len;
         }
-        free(pieces[i].bytes);
     }
     return size;
 }
@@ -241,7 +249,7 @@ static void fresh(piece *p)
         p->head[0] &= 31;
     if (below(5) == 0)
         p->head[0] &= 0xe0; /* an image */
-    p->bytes = malloc(MOST_PAYLOAD + 1);
+    p->bytes = some_bytes();
     p->len = below(24);
     for (i = 0; i < 24; i++)
         p->bytes[i] = (uint8_t)below(256);
@@ -282,6 +290,7 @@ size_t LLVMFuzzerCustomMutator(uint8_t *data, size_t size, size_t most, unsigned
     piece pieces[MOST_RECORDS + 1], kept;
     size_t n, at, other;
     state = seed;
+    taken = 0;
     if (below(4) == 0)
         return LLVMFuzzerMutate(data, size, most);
     n = split(data, size, pieces);
@@ -295,7 +304,6 @@ size_t LLVMFuzzerCustomMutator(uint8_t *data, size_t size, size_t most, unsigned
         break;
     case 1:
         at = below((unsigned)n);
-        free(pieces[at].bytes);
         memmove(pieces + at, pieces + at + 1, (--n - at) * sizeof *pieces);
         break;
     case 2:
