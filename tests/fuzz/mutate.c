@@ -115,6 +115,8 @@ static plain some_registers(unsigned lg_k, unsigned width)
     }
     for (i = 0; i < k; i++)
         x.registers[i] = (uint8_t)(least + (below(rare) == 0 ? below(most) : below(most < 4 ? most : 4)));
+    if (below(4) == 0)
+        x.registers[below((unsigned)k)] = 63;
     plain_clear(&x);
     if (kind == 0)
         plain_set_fields(&x);
@@ -179,10 +181,11 @@ static size_t some_image(uint8_t *image)
 static size_t spoil(uint8_t *image, size_t len)
 {
     static const uint8_t places[] = {0, 3, 4, 5, 6, 7, 8, 9, 32, 33, 36, 37, 39};
+    static const uint8_t limits[] = {0, 1, 3, 4, 5, 7, 8, 9, 15, 21, 22, 26, 27, 62, 63, 64, 65, 128, 192, 255};
     size_t at;
     if (len < 8)
         return len;
-    switch (below(6)) {
+    switch (below(8)) {
     case 0:
         return len - 1 - below((unsigned)len);
     case 1:
@@ -202,8 +205,16 @@ static size_t spoil(uint8_t *image, size_t len)
         if (at < len)
             image[at] = (uint8_t)(image[at] + (below(2) == 0 ? 1 : 255));
         return len;
-    default:
+    case 5:
         image[below((unsigned)len)] = (uint8_t)below(256);
+        return len;
+    case 6:
+        at = places[below(sizeof places)];
+        if (at < len)
+            image[at] = limits[below(sizeof limits)];
+        return len;
+    default:
+        image[len > 40 ? 40 + below((unsigned)len - 40) : below((unsigned)len)] = limits[below(sizeof limits)];
         return len;
     }
 }

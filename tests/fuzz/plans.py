@@ -19,6 +19,8 @@ from plain_plans import answer_of
 from rows import rows_in, texts
 
 MOST = 1 << 16
+LIMITS = [0, 1, 3, 4, 6, 8, 9, 21, 22, 62, 63, 64, 2**26 - 1, 2**26, 99999999]
+BYTES = [b"00", b"01", b"1a", b"1b", b"3f", b"40", b"80", b"c0", b"ff", b"FF", b"0g", b"/0", b":0", b"@0", b"G0", b"`0", b"0 "]
 WORDS = [b"new", b"image", b"coupon", b"union", b"fold", b"#", b"", b"Union"]
 
 
@@ -30,8 +32,8 @@ class Changes:
 
     def number(self):
         """A number as a plan has it, in range or out of it."""
-        greatest = self.random.choice((4, 8, 13, 22, 64, 2**26, 2**27))
-        return b"%0*d" % (self.random.choice((1, 1, 1, 2, 8, 9)), self.random.randrange(greatest))
+        greatest, digits = self.random.choice((4, 8, 13, 22, 64, 2**26, 2**27)), self.random.choice((1, 1, 1, 2, 8, 9))
+        return b"%0*d" % (digits, self.random.choice(LIMITS) if self.random.randrange(2) else self.random.randrange(greatest))
 
     def line(self):
         """A line that says something, or nearly."""
@@ -49,20 +51,20 @@ class Changes:
         return self.random.choice(self.random.choice(self.plans).split(b"\n"))
 
     def digits(self, line):
-        """The line of an image in which some digits differ."""
-        changed = bytearray(line)
+        """The line of an image in which some bytes differ."""
         for _ in range(self.random.randint(1, 3)):
-            place = 6 + min(int(self.random.expovariate(0.03)), len(line) - 7)
-            changed[place] = self.random.choice(b"0123456789abcdefABCDEF" + b"g ")
-        return bytes(changed)
+            last = len(line) // 2 - 4
+            place = 6 + 2 * (self.random.randint(0, last) if self.random.randrange(2) else min(self.random.randrange(40), last))
+            line = line[:place] + self.random.choice(BYTES) + line[place + 2 :]
+        return line
 
     def changed_line(self, line):
-        if line.startswith(b"image ") and len(line) > 6:
+        if line.startswith(b"image ") and len(line) > 14:
             kind = self.random.randrange(4)
             return (self.digits(line), line[: -2 * self.random.randint(1, 8)], line + b"00ff", self.digits(self.digits(line)))[kind]
         words = line.split(b" ")
         place = self.random.randrange(len(words))
-        words[place] = self.number() if self.random.randrange(3) else words[place] + self.random.choice((b"0", b" ", b"x", b"\r", b""))
+        words[place] = self.number() if self.random.randrange(3) else words[place] + self.random.choice((b"0", b" ", b"/", b":", b"\r", b""))
         return b" ".join(words)
 
     def change(self, lines):
