@@ -86,9 +86,15 @@ class Changes:
         for _ in range(self.random.randint(0, 4)):
             self.change(lines)
             lines = lines or [b""]
-        text = b"\n".join(lines)
+        text = b"\n".join(lines)[:MOST]
         kind = self.random.randrange(8)
-        return text + b"\n" if kind == 0 else text.replace(b"\n", b"\r\n", self.random.randrange(3)) if kind == 1 else text[:MOST]
+        if kind == 0:
+            return text + b"\n"
+        if kind == 1:
+            text = text.replace(b"\n", b"\r\n", self.random.choice((1, 2, -1)))
+        if kind == 2:   # the program reads pieces, and their ends are anywhere in the plan
+            text = b"#".ljust(self.random.randrange(MOST, MOST + 8192), b"x") + b"\n" + text.replace(b"\n", b"\r\n")
+        return text
 
 
 def printed(program, plan):
