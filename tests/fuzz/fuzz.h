@@ -147,6 +147,9 @@ int plain_join(plain *x, unsigned lg_max_k, const plain *y);
 /* The widths after a join (docs of hll_state_info). */
 unsigned widths_after(unsigned widths, unsigned other, int is_first_empty, int is_second_empty);
 
+/* Joins an image to a state, and checks what it is then. */
+void join_image(world *w, int i, unsigned lg_max_k, const held *h);
+
 void keep_image(world *w, const uint8_t *bytes, size_t len);
 
 #endif

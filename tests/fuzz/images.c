@@ -326,27 +326,6 @@ static void check_many_coupons(uint64_t n)
     CHECK(hll_version() == HLL_VERSION_NUMBER, "the version is %u", hll_version());
 }
 
-/* Calls over one image. */
-void on_image(world *w, const record *r)
-{
-    held *h;
-    keep_image(w, r->bytes, r->len);
-    h = &w->images[(w->next + IMAGES - 1) % IMAGES];
-    check_size(h);
-    check_info(h);
-    check_estimate(h);
-    check_hip(h);
-    check_convert(h, r->a % 16 == 15 ? r->b : 2u * (r->a % 5u));
-    check_fold(h, r->b % 32);
-    check_fields(h, SET_FIELDS);
-    check_fields(h, CLEAR_FIELDS);
-    check_add_coupon(h, (uint32_t)r->a << 18 | (uint32_t)r->b << 8 | r->c, r->c % 65);
-    check_new(r->a % 32, r->b % 16);
-    check_many_coupons((uint64_t)r->a << 19 | (uint64_t)r->b << 11 | r->c);
-    if (h->reason != 0 || !is_heavy(r, h->x.lg_k))
-        check_histogram(h);
-}
-
 /* Checks the status of a call that writes coupons, and the coupons: in the room that they need, and in less. */
 static void check_coupons(const char *call, const batch *b, hll_status status, int wanted, const uint32_t *coupons)
 {
@@ -837,4 +816,45 @@ void on_registers(world *w, const record *r)
         CHECK(hll_registers_merge(w->registers[i], w->counts[i] - 1 - r->c % 5, NULL, 0, &lg_k) == HLL_ARGUMENT,
               "registers of a count");
     }
+}
+
+/* ---- each image ---- */
+
+/* Merges an image into each of what can be merged into: a union, registers and a state. */
+static void check_merges(world *w, held *h, const record *r)
+{
+    call c = {0};
+    hll_bytes part;
+    part.bytes = h->at;
+    part.len = h->len;
+    c.kind = UNIONV;
+    c.lg_k = 4 + r->c % 18u;
+    c.width = 4 + 2 * (r->a % 3u);
+    c.parts = &part;
+    c.n = 1;
+    check_union(&c, &h, 1, 1);
+    check_merging(w, r->b & 1, h);
+    join_image(w, r->c & 1, r->c & 2 ? 0 : 12, h);
+}
+
+/* Calls over one image. */
+void on_image(world *w, const record *r)
+{
+    held *h;
+    keep_image(w, r->bytes, r->len);
+    h = &w->images[(w->next + IMAGES - 1) % IMAGES];
+    check_size(h);
+    check_info(h);
+    check_estimate(h);
+    check_hip(h);
+    check_convert(h, r->a % 16 == 15 ? r->b : 2u * (r->a % 5u));
+    check_fold(h, r->b % 32);
+    check_fields(h, SET_FIELDS);
+    check_fields(h, CLEAR_FIELDS);
+    check_add_coupon(h, (uint32_t)r->a << 18 | (uint32_t)r->b << 8 | r->c, r->c % 65);
+    check_new(r->a % 32, r->b % 16);
+    check_many_coupons((uint64_t)r->a << 19 | (uint64_t)r->b << 11 | r->c);
+    check_merges(w, h, r);
+    if (h->reason != 0 || !is_heavy(r, h->x.lg_k))
+        check_histogram(h);
 }

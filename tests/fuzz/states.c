@@ -264,6 +264,12 @@ static void join(world *w, int i, unsigned lg_max_k, const joinable *y)
     free_before(&old);
 }
 
+void join_image(world *w, int i, unsigned lg_max_k, const held *h)
+{
+    joinable y = {h, &h->x, h->reason != 0 ? 0 : 1u << (h->x.width / 2 - 2), h->reason};
+    join(w, i, lg_max_k, &y);
+}
+
 static void check_join_state(world *w, int i, unsigned lg_max_k)
 {
     before other = look(w, 1 - i);
@@ -447,7 +453,6 @@ void on_state(world *w, const record *r)
     int i = r->a & 1;
     unsigned lg_max_k = r->b % 32;
     const held *h = &w->images[r->c % IMAGES];
-    joinable y = {h, &h->x, h->reason != 0 ? 0 : 1u << (h->x.width / 2 - 2), h->reason};
     switch (r->a >> 1 & 15) {
     case 0:
         check_state_new(w, i, lg_max_k, r->c);
@@ -459,7 +464,7 @@ void on_state(world *w, const record *r)
         break;
     case 4:
     case 5:
-        join(w, i, r->c & 128 ? 0 : lg_max_k, &y);
+        join_image(w, i, r->c & 128 ? 0 : lg_max_k, h);
         break;
     case 6:
         check_join_state(w, i, r->c & 128 ? 0 : lg_max_k);
