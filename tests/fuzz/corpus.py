@@ -2,11 +2,14 @@
 # SPDX-License-Identifier: Apache-2.0
 """Makes the first inputs of the fuzz target from the test vectors and the walks: corpus.py DIRECTORY.
 
-Each plan is one input: its images, its coupons added to an image, to a state and to a counter, and its unions and folds. A file is
-named by the checksum of its bytes, as libFuzzer names files.
+Each plan is one input: its images, its coupons added to a state, to a counter and to registers, and its unions. More inputs are
+sequences of calls on states and counters with such images, by a seeded generator. A file is named by the checksum of its bytes, as
+libFuzzer names files.
 """
 import hashlib
 import pathlib
+import random
+import re
 import struct
 import sys
 
@@ -71,10 +74,37 @@ def input_of(plan):
     return calls + of_coupons(coupons) if coupons else calls
 
 
+def some_values(chance):
+    """Two bytes, which stand for a number of values: few, as many as wait in a counter, or many."""
+    number = chance.choice((chance.randrange(20), chance.randrange(16, 60), chance.randrange(300, 1200)))
+    return bytes([number % 4, number // 4]) if number < 1024 else bytes([number - 1020, 255])
+
+
+def sequence(chance, kind, images, calls):
+    """Calls on two states, or on two counters, of one lg_k or of several, some with allocations that fail."""
+    lg_ks = [chance.choice((4, 8, 10, 12, 13, 14)) for _ in range(2)] if chance.randrange(2) else [chance.randrange(10, 15)] * 2
+    made = b"".join(record(IMAGE, (4, 8, 9), image) for image in images)
+    for place, lg_k in enumerate(lg_ks):
+        made += record(kind, (place, lg_k, 40), b"")
+    for _ in range(chance.randrange(3, 14)):
+        number = chance.randrange(2, 2 * calls)
+        failing = chance.choice((0, 0, 0, 0, 5, 6, 7)) << 5
+        made += record(kind | failing, (number, chance.randrange(256), chance.randrange(256)), some_values(chance))
+    return made
+
+
+def sequences(plans):
+    chance = random.Random(1)
+    found = {digits for plan in plans for digits in re.findall(rb"^image ((?:[0-9a-f]{2}){8,2000})$", plan, re.M)}
+    images = [bytes.fromhex(digits.decode()) for digits in sorted(found)]
+    return {sequence(chance, kind, chance.sample(images, 3), calls) for kind, calls in ((STATE, 13), (COUNTER, 15)) for _ in range(500)}
+
+
 def main():
     place = pathlib.Path(sys.argv[1])
     place.mkdir(parents=True, exist_ok=True)
-    inputs = {input_of(plan) for path in texts() for plan, _, _ in rows_in(path)} - {b""}
+    plans = [plan for path in texts() for plan, _, _ in rows_in(path)]
+    inputs = {input_of(plan) for plan in plans} - {b""} | sequences(plans)
     for content in inputs:
         (place / hashlib.sha1(content).hexdigest()).write_bytes(content)
     print("%d passed, %d failed" % (len(inputs), not inputs))

@@ -351,8 +351,8 @@ void on_counter(world *w, const record *r)
     c.r = r;
     c.kind = r->a >> 1 & 15;
     if (!w->counters[0].is_begun) {
-        start(&w->counters[0], 12);
-        start(&w->counters[1], 10);
+        start(&w->counters[0], 13);
+        start(&w->counters[1], 13);
     }
     if (c.kind == INIT)
         start(m, r->b % 32);

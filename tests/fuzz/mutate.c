@@ -261,7 +261,7 @@ static void fresh(piece *p)
     if (below(5) == 0)
         p->head[0] &= 0xe0; /* an image */
     p->bytes = some_bytes();
-    p->len = below(24);
+    p->len = below(3) == 0 ? 2 : below(24); /* two bytes are a number of values */
     for (i = 0; i < 24; i++)
         p->bytes[i] = (uint8_t)below(256);
     if (p->head[0] % 8 == 0)
