@@ -231,28 +231,23 @@ static void check_info(const counted *m)
     CHECK(said.stage != HLL_REGISTERS || m->x.size == 0, "stage %d", said.stage);
 }
 
-/* A counter before a call that only reads it: the struct, and the bytes of its state. */
-typedef struct kept {
-    hll_counter counter;
-    uint8_t *bytes;
-} kept;
-
-static kept keep_counter(const counted *m)
+/* Returns the bytes of a counter and of its state, before a call that only reads them. */
+static uint8_t *bytes_of(const counted *m)
 {
-    kept k;
-    k.counter = m->counter;
-    k.bytes = malloc(m->counter.room + 1);
+    uint8_t *bytes = malloc(sizeof m->counter + m->counter.room);
+    memcpy(bytes, &m->counter, sizeof m->counter);
     if (m->counter.room > 0)
-        memcpy(k.bytes, m->counter.state, m->counter.room);
-    return k;
+        memcpy(bytes + sizeof m->counter, m->counter.state, m->counter.room);
+    return bytes;
 }
 
-static void check_kept(const char *name, const counted *m, kept *k)
+/* Checks that they are the same, and frees the copy. */
+static void check_kept(const char *name, const counted *m, uint8_t *bytes)
 {
-    CHECK(memcmp(&k->counter, &m->counter, sizeof k->counter) == 0, "%s changed the counter", name);
-    CHECK(m->counter.room == 0 || memcmp(k->bytes, m->counter.state, m->counter.room) == 0,
+    CHECK(memcmp(bytes, &m->counter, sizeof m->counter) == 0, "%s changed the counter", name);
+    CHECK(m->counter.room == 0 || memcmp(bytes + sizeof m->counter, m->counter.state, m->counter.room) == 0,
           "%s changed the state of a counter", name);
-    free(k->bytes);
+    free(bytes);
 }
 
 /* Checks the image of a counter, in exactly the room that it needs, and that reading leaves the struct. */
@@ -261,7 +256,7 @@ static void check_image(const counted *m, unsigned width)
     plain x = plain_copy(&m->x);
     uint8_t *image, *out;
     size_t len, size = 0;
-    kept k = keep_counter(m);
+    uint8_t *kept = bytes_of(m);
     x.width = is_width(width) ? width : 8;
     plain_fill(&x);
     image = malloc(plain_room(&x));
@@ -272,7 +267,7 @@ static void check_image(const counted *m, unsigned width)
               is_width(width) ? HLL_OK : HLL_ARGUMENT))
         CHECK(size == len && memcmp(out, image, len) == 0, "hll_counter_image: %zu bytes, plainly %zu", size, len);
     check_edge(EDGE_OUT, len);
-    check_kept("hll_counter_image", m, &k);
+    check_kept("hll_counter_image", m, kept);
     free(image);
     plain_free(&x);
 }
@@ -280,11 +275,11 @@ static void check_image(const counted *m, unsigned width)
 static void check_estimate(const counted *m)
 {
     hll_estimation found;
-    kept k = keep_counter(m);
+    uint8_t *kept = bytes_of(m);
     begin();
     if (ended("hll_counter_estimate", hll_counter_estimate(&m->counter, &found), HLL_OK))
         check_estimation(&m->x, &found);
-    check_kept("hll_counter_estimate", m, &k);
+    check_kept("hll_counter_estimate", m, kept);
 }
 
 /* ---- records ---- */
