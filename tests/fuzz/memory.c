@@ -86,24 +86,50 @@ static int is_failing(void)
     return 1;
 }
 
+/* A piece of memory has its size before it, and a pattern on both sides. */
+enum { SIDE = 16 };
+
+static void *with_sides(uint8_t *all, size_t size)
+{
+    set_pattern(all, SIDE);
+    memcpy(all, &size, sizeof size);
+    set_pattern(all + SIDE + size, SIDE);
+    return all + SIDE;
+}
+
+/* Checks the sides of a piece. Returns where it begins with them. */
+static uint8_t *checked(uint8_t *memory)
+{
+    size_t size;
+    memcpy(&size, memory - SIDE, sizeof size);
+    CHECK(is_pattern(memory - SIDE + sizeof size, SIDE - sizeof size), "written before allocated memory");
+    CHECK(is_pattern(memory + size, SIDE), "written after %zu bytes of allocated memory", size);
+    return memory - SIDE;
+}
+
 void *fuzz_malloc(size_t size)
 {
-    void *made = is_failing() ? NULL : malloc(size);
-    heap.live += made != NULL;
-    return made;
+    return fuzz_realloc(NULL, size);
 }
 
 void *fuzz_realloc(void *memory, size_t size)
 {
-    void *made = is_failing() ? NULL : realloc(memory, size);
-    heap.live += made != NULL && memory == NULL;
-    return made;
+    void *made;
+    if (is_failing())
+        return NULL;
+    made = realloc(memory == NULL ? NULL : checked(memory), size + 2 * SIDE);
+    if (made == NULL)
+        return NULL;
+    heap.live += memory == NULL;
+    return with_sides(made, size);
 }
 
 void fuzz_free(void *memory)
 {
-    heap.live -= memory != NULL;
-    free(memory);
+    if (memory == NULL)
+        return;
+    heap.live--;
+    free(checked(memory));
 }
 
 void begin(void)
