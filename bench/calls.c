@@ -32,6 +32,22 @@ static void run_merge(void)
     need(hll_image_merge(LG_K, width, one.bytes, one.len, two.bytes, two.len, out.bytes, sizeof out.bytes, &out.len, &failed));
 }
 
+/* A fold after which coupons are still coupons. */
+static void run_fold(void)
+{
+    need(hll_image_fold(one.bytes, one.len, LG_K - 2, out.bytes, sizeof out.bytes, &out.len));
+}
+
+static void run_set_fields(void)
+{
+    need(hll_image_set_estimator_fields(one.bytes, one.len, out.bytes, sizeof out.bytes, &out.len));
+}
+
+static void run_add_coupon(void)
+{
+    need(hll_image_add_coupon(one.bytes, one.len, 5, 2, out.bytes, sizeof out.bytes, &out.len));
+}
+
 static void run_info(void)
 {
     hll_info info;
@@ -151,6 +167,9 @@ static const struct {
     {"convert", run_convert, NULL},
     {"fill", run_fill, NULL},
     {"merge", run_merge, NULL},
+    {"fold", run_fold, NULL},
+    {"set_fields", run_set_fields, NULL},
+    {"add_coupon", run_add_coupon, NULL},
     {"info", run_info, NULL},
     {"estimate", run_estimate, NULL},
     {"agree", run_agree, NULL},
