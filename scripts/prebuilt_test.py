@@ -336,7 +336,7 @@ a.b.12ab:
 
     def test_the_text_that_is_there(self):
         """No operand of it is quoted, which GNU's assembler 2.35 rejects."""
-        for path in sorted((pathlib.Path(__file__).resolve().parent.parent / "prebuilt").glob("*/*.s")):
+        for path in sorted(prebuilt.PREBUILT / text.path for text in prebuilt.TEXTS):
             quoted = [line for line in path.read_text().splitlines() if '"' in line and not prebuilt.DATA.match(line)]
             self.assertEqual([line for line in quoted if not line.startswith("\t.section\t") or line.startswith('\t.section\t"')], [], path)
 
