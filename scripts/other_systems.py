@@ -92,7 +92,8 @@ TEXTS = {
     "riscv64-linux-gnu": Target("riscv64-unknown-linux-gnu", ("-fPIC", "-march=rv64gc", "-mabi=lp64d"), WRITTEN),
     "x86_64-windows-gnu": Target("x86_64-w64-windows-gnu", ("-march=x86-64-v2", "-fno-function-sections", "-fno-data-sections")),
     "x86_64-macos": Target("x86_64-apple-macos11", ("-fPIC", "-march=x86-64-v2")),
-    "aarch64-macos": Target("arm64-apple-macos11", ("-fPIC",), NEON),
+    # (in ARM's own syntax, as older versions of clang don't read udot in Apple's)
+    "aarch64-macos": Target("arm64-apple-macos11", ("-fPIC", "-mllvm", "-aarch64-neon-syntax=generic"), NEON),
 }
 
 
