@@ -100,7 +100,7 @@ TEXTS = {
 # ---- what crosses a call
 
 
-# The same register or eight bytes of the stack in each calling convention, if both sides have one type.
+# Types that every calling convention passes in one register or in eight bytes of the stack, if both sides declare the same type.
 SIMPLE = re.compile(r"(?:i8|i16|i32|i64|ptr|double|void)$")
 # Attributes of arguments by which they don't cross in registers, as a struct by value.
 IN_MEMORY = re.compile(r"\b(?:byval|sret|inalloca|preallocated|byref)\b")
