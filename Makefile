@@ -10,7 +10,8 @@
 #                           rt, and takes 10 to 25 minutes on four processors
 #   make texts              makes the texts for Windows, macOS and RISC-V, which a checkout has not (prebuilt/README.md). It needs the
 #                           command rt, and takes a minute or two after ./check proofs or make prove, and else as long as make prove
-#   make dist               makes all packages of a release in dist/ (docs/INSTALL.md)
+#   make dist               makes packages for this release of Debian in dist/ (docs/INSTALL.md)
+#   make release            makes all files of a release in dist/, of a commit with a tag, as root (docs/RELEASING.md)
 #   make html               makes these pages as a site in dist/html. It needs pandoc
 #   make page               makes dist/hll.html, a page that opens images in a browser. It needs Python
 #   make check              tests everything: ./check
@@ -38,7 +39,7 @@ PARTS := $(PROGRAMS) $(SQLITE) bindings/c
 STATE := $(filter fresh,$(shell scripts/prebuilt.sh state))
 FOUND := $(STATE:%=STATE=%)
 
-.PHONY: all install uninstall install-postgresql uninstall-postgresql prove texts dist html page check clean
+.PHONY: all install uninstall install-postgresql uninstall-postgresql prove texts dist release html page check clean
 
 all clean:
 	set -e; for part in $(PARTS) $(POSTGRESQL); do $(MAKE) -C $$part $@ $(FOUND); done
@@ -60,6 +61,9 @@ texts:
 
 dist:
 	python3 packaging/dist.py
+
+release:
+	python3 packaging/dist.py --release
 
 html:
 	python3 scripts/make_html.py

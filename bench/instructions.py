@@ -2,10 +2,13 @@
 # SPDX-License-Identifier: Apache-2.0
 """Counts the instructions of calls of libhll at lg_k 12, as callgrind counts them.
 
-    bench/instructions.py [--library FOLDER]
+    bench/instructions.py [--library FOLDER] [--arm]
 
 FOLDER has hll.h and libhll.a, of another build for example; without it bindings/c is taken, which has to be built. Prints
 tables for docs/NUMBERS.md, "Calls from C".
+
+With --arm it counts those of some calls on 64-bit ARM, which qemu-aarch64 executes and logs one by one (bench/arm.c). This needs
+aarch64-linux-gnu-gcc and `make -C bindings/c TARGET=aarch64-unknown-linux-gnu`, and takes a minute.
 """
 import argparse
 import concurrent.futures
@@ -71,6 +74,31 @@ def built(folder, library):
     return program
 
 
+ARM_CALLS = [
+    ("`hll_image_check`", "check", 1),
+    ("`hll_images_unionv` of one image", "union1", 1),
+    ("of eleven images", "union", 1),
+    ("`hll_image_convert` to the same width", "convert", 1),
+    ("`hll_registers_merge`", "merge", 1),
+    ("`hll_estimate`", "estimate", 1),
+]
+
+
+def built_for_arm(folder, library):
+    """The program of arm.c for 64-bit ARM, in a folder."""
+    program = folder / "arm"
+    archive = library / "build" / "aarch64-unknown-linux-gnu" / "libhll.a"
+    subprocess.run(["aarch64-linux-gnu-gcc", "-static", "-O2", "-std=c99", "-I", library, ROOT / "bench" / "arm.c", archive, "-lm", "-o", program], check=True)
+    return program
+
+
+def executed(program, call, given, rounds):
+    """How many instructions the emulator executes. With these options it logs a line for each."""
+    emulator = "qemu-aarch64 -singlestep -d exec,nochain \"$@\" 2>&1 >/dev/null | grep -c ^Trace"
+    done = subprocess.run(["sh", "-c", emulator, "sh", program, call, given, str(rounds)], stdout=subprocess.PIPE, text=True, check=True)
+    return int(done.stdout)
+
+
 def collected(program, call, given, rounds):
     """How many instructions the program executes for so many rounds of a call."""
     command = ["valgrind", "--tool=callgrind", "--callgrind-out-file=/dev/null", program, call, given, str(rounds)]
@@ -80,6 +108,8 @@ def collected(program, call, given, rounds):
 
 def count(program, call, given, divisor):
     """How many instructions one call takes, divided: the rest of the program is the same for each number of rounds."""
+    if program.name == "arm":
+        return (executed(program, call, given, 3) - executed(program, call, given, 1)) / 2
     few, many = (1000, 3000) if divisor == 1 else (10, 30)
     more = collected(program, call, given, many) - collected(program, call, given, few)
     return more / (many - few) / divisor
@@ -97,8 +127,13 @@ def table(executor, program, first, inputs, calls):
 def main():
     parser = argparse.ArgumentParser(description=__doc__.splitlines()[0])
     parser.add_argument("--library", type=pathlib.Path, metavar="FOLDER", default=ROOT / "bindings" / "c")
+    parser.add_argument("--arm", action="store_true")
     options = parser.parse_args()
     with tempfile.TemporaryDirectory() as folder, concurrent.futures.ThreadPoolExecutor(os.cpu_count()) as executor:
+        if options.arm:
+            program = built_for_arm(pathlib.Path(folder), options.library)
+            print("\n".join(table(executor, program, "registers, bits", REGISTERS, ARM_CALLS)))
+            return 0
         program = built(pathlib.Path(folder), options.library)
         tables = [
             table(executor, program, "registers, bits", REGISTERS, CALLS),

@@ -8,8 +8,8 @@ Builds the library of the commit from `git archive`, with make, and compares bin
 for docs/NUMBERS.md, "Unions": nanoseconds of CPU time of one call, the least of many turns, and the ratio to the earlier library.
 Needs bindings/c built, git, GNU make and a C compiler.
 
-Targets, as ratios to the library of 03af997b: two sets of 20 at most 0.3, and ten at most 0.85; no row above 1.03, but those of
-hundreds of lists (1.15) and of registers, which are merged in elements of four bytes.
+Targets, as ratios to the library of 03af997b: two sets of 20 at most 0.3, and ten at most 0.85; 8-bit registers at most 0.75; no row above
+1.03, but those of hundreds of lists (1.15) and of 6-bit and 4-bit registers, which are merged in elements of four bytes.
 """
 import pathlib
 import subprocess

@@ -1,10 +1,11 @@
 #!/bin/sh
 # SPDX-License-Identifier: Apache-2.0
-# What a user does with the installed packages, on a machine without rt: installed.sh INSTALL.md. Prints 'ok: ' and a name for
-# each thing that works, and ends with the first that doesn't. ROOT is where the packages are unpacked, if they are not
+# What a user does with the installed packages, on a machine without rt: installed.sh INSTALL.md README.md. Prints 'ok: ' and a name
+# for each thing that works, and ends with the first that doesn't. ROOT is where the packages are unpacked, if they are not
 # installed.
 set -eu
 page=$1
+readme=$2
 ROOT=${ROOT:-}
 cd "$(mktemp -d)"
 ! command -v rt >/dev/null || { echo 'rt is here'; exit 1; }
@@ -25,7 +26,10 @@ echo 'ok: the lines of INSTALL.md'
 for name in hll hll_merge hll_estimator_fields; do
     [ "$($name --version | cut -d' ' -f1)" = $name ]
 done
-[ "$(hll --version | cut -d' ' -f2)" = "$(hll_merge --version | cut -d' ' -f2)" ]
+version=$(hll --version | cut -d' ' -f2)
+[ "$version" = "$(hll_merge --version | cut -d' ' -f2)" ]
+[ "$version" = "$(pkg-config --modversion hll)" ]
+[ "$version" = "$(sqlite3 :memory: '.load hll_sketches' 'SELECT hll_version()')" ]
 ! hll_merge --other 2>said && [ "$(wc -l <said)" -eq 1 ]
 echo 'ok: versions of the commands'
 
@@ -57,21 +61,41 @@ echo 'ok: the example in C++'
 echo 'ok: SQLite'
 
 [ -z "$ROOT" ] || exit 0
+mkdir project
+cat >project/CMakeLists.txt <<END
+cmake_minimum_required(VERSION 3.13)
+project(example C)
+find_package(hll $version EXACT REQUIRED)
+add_executable(example /usr/share/doc/libhll-dev/examples/merge.c)
+target_link_libraries(example hll::hll)
+END
+cmake -S project -B project/build >said && cmake --build project/build >>said || { cat said; exit 1; }
+near_1000 "$(project/build/example merged.hll monday.hll tuesday.hll | cut -d' ' -f1)"
+echo 'ok: the example in C by CMake'
+
 # try_postgresql BIN: the extension on a server of the version that has its programs in BIN
 try_postgresql() {
     data=$(mktemp -d)
     chown postgres "$data"
     as_postgres "$1" 'initdb -D data >log 2>&1'
     as_postgres "$1" "pg_ctl -D data -w -l log -o \"-k $data -c listen_addresses='' -c dynamic_shared_memory_type=mmap\" start >>log" || { cat "$data/log"; exit 1; }
-    as_postgres "$1" "psql -h $data -qAt" <<'END' >said
+    as_postgres "$1" "psql -h $data -qAt" <<END >said
 CREATE EXTENSION hll_sketches;
 SELECT hll_estimate(hll_image_union_agg(image)) BETWEEN 950 AND 1050
 FROM (SELECT hll_image_add_agg(x) image FROM generate_series(1, 1000) x GROUP BY x % 7) days;
 CREATE EXTENSION hll_sketches_agg;
+SELECT hll_version();
+CREATE TABLE daily AS SELECT day::date, hyperloglog_agg(n) AS image
+FROM generate_series(date '2026-10-30', '2026-11-02', '1 day') day, generate_series(1, 500) n GROUP BY day;
+SET datestyle = ISO;
+SET timezone = UTC;
+$query
 END
     as_postgres "$1" 'pg_ctl -D data -w -m immediate stop >>log'
-    [ "$(cat said)" = t ]
+    [ "$(sed -n '1,2p' said)" = "$(printf 't\n%s' "$version")" ]
+    [ "$(sed 1,2d said | awk -F '[ |]' '$NF > 475 && $NF < 525 { print $1 }' | sort | tr '\n' ' ')" = '2026-10-01 2026-11-01 ' ]
 }
+query=$(sed -n '/^```sql$/,/^```$/p' "$readme" | grep -v '^```')
 
 as_postgres() {
     su postgres -s /bin/sh -c "cd $data && PATH=$1:\$PATH && $2"
@@ -80,4 +104,4 @@ as_postgres() {
 for module in /usr/lib/postgresql/*/lib/hll_sketches.so; do
     try_postgresql "${module%/lib/hll_sketches.so}/bin"
 done
-echo 'ok: PostgreSQL'
+echo 'ok: PostgreSQL, with the query of README.md'

@@ -12,7 +12,7 @@ import prebuilt
 import wheels
 
 LICENCE = "Apache-2.0"
-KINDS = {".deb": "INSTALL", ".whl": "LIBRARY", ".gz": "SOURCE", ".tgz": "LIBRARY", ".html": "APPLICATION"}
+KINDS = {".deb": "INSTALL", ".whl": "LIBRARY", ".gz": "SOURCE", ".crate": "SOURCE", ".tgz": "LIBRARY", ".html": "APPLICATION"}
 # The Rattle crate hex, a port of Rust's, which both programs contain, and functions of the toolchain's own libraries.
 HEX = ("hex", "0.4.3", "MIT OR Apache-2.0", "the crate that decodes and encodes digits, as the toolchain ports it")
 MUSL = ("musl", "1.2.3", "MIT", "the C library in the static programs")
@@ -23,8 +23,9 @@ def sum_of(file):
     return hashlib.sha256(file.read_bytes()).hexdigest()
 
 
-def first_line(*words):
-    """What a tool says of its version; None where it is not here."""
+def first_line(*words, root=None):
+    """What a tool says of its version, in a root if one is given; None where it is not there."""
+    words = ["chroot", str(root), *words] if root else words
     try:
         return subprocess.run(words, stdout=subprocess.PIPE, text=True, check=True).stdout.splitlines()[0]
     except (OSError, subprocess.CalledProcessError, IndexError):
@@ -56,28 +57,43 @@ def is_static(package):
     return "-static-" in package.name
 
 
+def is_site(package):
+    """Whether a package has the pages as a site."""
+    return package.name.endswith("-site.tar.gz")
+
+
+def is_for_web(package):
+    """Whether a package has the module for WebAssembly, and no other compiled code."""
+    return package.suffix in (".tgz", ".html") or is_site(package)
+
+
 def texts_of(package):
-    """The texts for other systems that a source package has, with their checksums."""
-    others = prebuilt.committed().others
+    """The texts that a source package or a crate has."""
+    verdict = prebuilt.committed()
     with tarfile.open(package) as tar:
         names = {name.partition("/prebuilt/")[2] for name in tar.getnames()}
-    return {path: others[path] for path in others if path in names}
+    return sorted(names & {*verdict.files, *verdict.others})
+
+
+def library(place):
+    """The paths in prebuilt/ of the texts of the library in a directory: on Linux on x86-64 there are two."""
+    return [place + "/libhll_c.s"] + ["x86_64/libhll_c_v3.s"] * (place == "x86_64")
 
 
 def texts_in(package):
     """The paths in prebuilt/ of the texts that a package holds, or what was built from them."""
     if is_static(package):
         return ["x86_64/%s.s" % name for name in prebuilt.PROGRAMS]
-    if package.suffix == ".gz":
-        return sorted({**prebuilt.committed().files, **texts_of(package)})
-    if package.suffix in (".tgz", ".html"):
+    if is_for_web(package):
         return [prebuilt.WASM]
+    if package.suffix in (".gz", ".crate"):
+        return texts_of(package)
     if package.suffix == ".whl":
         (wheel,) = (one for one in wheels.WHEELS if re.search("-%s[.]" % one.tag, package.name))
-        return [wheel.text + "/libhll_c.s"]
+        return library(wheel.text)
     if package.name.startswith("hll-sketches_"):
         return ["x86_64/hll_merge.s", "x86_64/hll_estimator_fields.s"]
-    return [] if package.name.endswith("_all.deb") else ["x86_64/libhll_c.s"]
+    return [] if package.name.endswith("_all.deb") else library("x86_64")
 
 
 def contents(package):
@@ -102,11 +118,11 @@ def compiler_of(package):
     return next((compiler for word, compiler in COMPILERS.items() if word in package.name), "gcc")
 
 
-def tools(package):
-    """What built it: the prover, whose compiler made the text, and what assembled and packed it."""
+def tools(package, root):
+    """What built it, in a root if one is given: the prover, whose compiler made the text, and what assembled and packed it."""
     kit, _, logic = prebuilt.committed().prover.partition(" logic ")
     yield part(kit, logic, "NOASSERTION", comment="proves the crates, and compiles them to the text of prebuilt/")
-    if package.suffix in (".tgz", ".html"):
+    if is_for_web(package):
         yield part("binaryen", prebuilt.committed().wasm.rpartition(" ")[2], comment="lowers the module to a 32-bit memory, and optimizes it")
     python = ["/usr/bin/python3", "-c", "import sys, importlib; print(importlib.import_module(sys.argv[1]).__version__)"]
     asked = {compiler_of(package): ["-dumpversion"], "as": ["--version"], "ld": ["--version"]}
@@ -117,7 +133,7 @@ def tools(package):
         asked.update({name: [*python, name] for name in ("setuptools", "wheel", "pip")})
     if package.suffix in (".deb", ".whl"):
         for name, words in asked.items():
-            yield part(name, first_line(*words) or "NOASSERTION", "NOASSERTION")
+            yield part(name, first_line(*words, root=root) or "NOASSERTION", "NOASSERTION")
 
 
 def needed_c_library(wheel):
@@ -139,12 +155,12 @@ def needed_by(file):
             yield needed_c_library(file)
 
 
-def related(file):
+def related(file, root):
     """Parts and relations of a package: triples of a part, a relation, and whether that is said of the package."""
     yield from ((one, "CONTAINS", True) for one in contents(file))
     yield part("datasketches", "0.6.0", comment="the Rust crate whose module hll is ported",
                copyrightText="Copyright 2025-2026 The Apache Software Foundation"), "DESCENDANT_OF", True
-    yield from ((one, "BUILD_TOOL_OF", False) for one in tools(file))
+    yield from ((one, "BUILD_TOOL_OF", False) for one in tools(file, root))
     wanted = {}
     for name, one in needed_by(file):
         wanted.setdefault(name, []).append(one)
@@ -156,12 +172,12 @@ def relation(left, kind, right):
     return {"spdxElementId": left, "relationshipType": kind, "relatedSpdxElement": right}
 
 
-def document(file, version, epoch):
-    """The bill of one package."""
+def document(file, version, epoch, root):
+    """The bill of one package, which was built in a root if one is given."""
     root = of_file(file.name, file, version, primaryPackagePurpose="APPLICATION" if is_static(file) else KINDS.get(file.suffix, "APPLICATION"))
     own = root["SPDXID"] = "SPDXRef-Package"
     parts, relations = [root], [relation("SPDXRef-DOCUMENT", "DESCRIBES", own)]
-    for one, kind, is_of_package in related(file):
+    for one, kind, is_of_package in related(file, root):
         parts.append(one)
         relations.append(relation(own, kind, one["SPDXID"]) if is_of_package else relation(one["SPDXID"], kind, own))
     return {
@@ -172,9 +188,9 @@ def document(file, version, epoch):
     }
 
 
-def put(dist, version, epoch):
-    """Writes the bill of each package next to it."""
+def put(dist, version, epoch, root_of=lambda file: None):
+    """Writes the bill of each package next to it. `root_of` gives the root in which a package was built, or None."""
     for file in sorted(dist.iterdir()):
         if file.suffix in KINDS:
-            bill = json.dumps(document(file, version, epoch), indent=1)
+            bill = json.dumps(document(file, version, epoch, root_of(file)), indent=1)
             (dist / (file.name + ".spdx.json")).write_text(bill + "\n")

@@ -3,6 +3,7 @@
 """Checks the documents, and prints 'N passed, M failed' in the end.
 
     scripts/documents.py [names] [words] [commands] [plans]
+    scripts/documents.py readme     the commands of README.md alone
 
 names     Files and sections that a page or a source names are there; a block after "From `FILE`:" is in that file; names in
           backticks are in the sources, and on the pages for reviewers are declared there; a clause is one of the function
@@ -508,6 +509,11 @@ def check_commands():
     return results.count(True), results.count(False)
 
 
+def check_readme():
+    results = run_page("README.md")
+    return results.count(True), results.count(False)
+
+
 # ---- plans
 
 
@@ -541,7 +547,7 @@ def main():
     parts = {"names": check_names, "words": wording.check, "commands": check_commands, "plans": check_plans}
     passed = failed = 0
     for part in sys.argv[1:] or parts:
-        more_passed, more_failed = parts[part]()
+        more_passed, more_failed = {**parts, "readme": check_readme}[part]()
         print(f"{part}: {more_passed} passed, {more_failed} failed")
         passed, failed = passed + more_passed, failed + more_failed
     print(f"{passed} passed, {failed} failed")

@@ -76,18 +76,29 @@ class Unknown(Exception):
 
 @dataclasses.dataclass(frozen=True)
 class Text:
-    """A file of prebuilt/, the crate that it is compiled from, and the processor that it is for."""
+    """A file of prebuilt/, the crate that it is compiled from, and the processor that it is for. If that is another level of x86-64
+    than the toolchain's own, `cpu` names it, and the text's names end in `suffix`."""
 
     name: str
     crate: str
     target: str
+    cpu: str = ""
+    suffix: str = ""
 
     @property
     def path(self):
-        return "%s/%s.s" % (self.target.partition("-")[0], self.name)
+        return "%s/%s%s.s" % (self.target.partition("-")[0], self.name, self.suffix)
+
+    @property
+    def words(self):
+        """What the toolchain's commands are told of the processor."""
+        return ["--target", self.target, *(["--cpu", self.cpu] if self.cpu else [])]
 
 
 TEXTS = [Text(name, crate, target) for target in (ARM, X86) for name, crate in {"libhll_c": "hll_c", **PROGRAMS}.items()]
+TEXTS.append(Text("libhll_c", "hll_c", X86, "x86-64-v3", "_v3"))
+# The texts whose module is kept, for what is compiled from it.
+MODULES = [Text("libhll_c", "hll_c", X86), Text("libhll_c", "hll_c", ARM)]
 
 
 # ---- the verdict
@@ -237,6 +248,16 @@ def with_plain_names(text):
     return "".join(made)
 
 
+def with_suffix(text, suffix):
+    """Returns a text with a suffix at the name of each function, so that it can be linked with a text that has the same names."""
+    names = set(re.findall(r"(?m)^\s*\.type\s+([\w.$]+),@function$", text))
+
+    def put(found):
+        return found[0] + suffix if found[0] in names or found[0].startswith(".text.") and found[0][len(".text."):] in names else found[0]
+
+    return "".join(line if DATA.match(line) else re.sub(r"[\w.$]+", put, line) for line in text.splitlines(keepends=True))
+
+
 def said_of(lines):
     """Returns what VERDICT has of the prover's lines: the functions in C that the proof rests on, and the verdict, the same
     whatever earlier checks had kept. The gate compares them with those of `rt ci`, which proves everything from nothing."""
@@ -258,7 +279,7 @@ def keep_module(file, target):
 def made(rtlib, text, jobs):
     """Proves a text's crate for its processor and compiles it. Returns the text, and what VERDICT has of the prover's lines."""
     crate = rtlib.Crate(str(ROOT / "crates" / text.crate), str(ROOT), {}, name=None)
-    words = [*crate.words(["--jobs", str(jobs)], keeps=False), "--target", text.target]
+    words = [*crate.words(["--jobs", str(jobs)], keeps=False), *text.words]
     with tempfile.TemporaryDirectory() as room:
         room = pathlib.Path(room)
         lines = call(rtlib, text.crate, "check", *words, "-o", str(room / "checked"))
@@ -269,12 +290,12 @@ def made(rtlib, text, jobs):
         call(rtlib, text.crate, "build", *words, "--toolchain", str(tools), "--backend", "llvm", "-o", str(room / "built"))
         if not kept.is_file():
             raise Unknown("the compiler of the toolchain was not called as clang")
-        if text.name == "libhll_c":
+        if text in MODULES:
             keep_module(str(kept) + ".bc", text.target)
-        if (text.name, text.target) == ("libhll_c", X86):
+        if text == MODULES[0]:
             call(rtlib, text.crate, "build", *words, "--toolchain", str(pathlib.Path(rtlib.KIT, "toolchain")), "--backend", "rattle",
                  "-o", str(OTHER_COMPILER))
-        return with_plain_names(with_stable_labels(kept.read_text())), said_of(lines)
+        return with_suffix(with_plain_names(with_stable_labels(kept.read_text())), text.suffix), said_of(lines)
 
 
 def kit():
@@ -333,9 +354,9 @@ def prove_modules(rtlib):
     """Proves the library, and keeps LLVM's modules of it."""
     for library in LIBRARIES:
         lib(library)
-    for target in (X86, ARM):
-        print("proving hll_c for %s" % target, flush=True)
-        made(rtlib, Text("libhll_c", "hll_c", target), min(os.cpu_count() or 1, 4))
+    for text in MODULES:
+        print("proving hll_c for %s" % text.target, flush=True)
+        made(rtlib, text, min(os.cpu_count() or 1, 4))
 
 
 def texts_again():

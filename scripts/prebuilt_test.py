@@ -99,6 +99,45 @@ class PrebuiltTest(unittest.TestCase):
         self.assertEqual((status, last), (1, "%d passed, 1 failed" % (TOTAL - 1)))
         self.assertIn("failed: prebuilt/x86_64/hll_estimator_fields.s", said)
 
+    def test_one_byte_of_either_text_of_the_library(self):
+        for path in ("x86_64/libhll_c.s", "x86_64/libhll_c_v3.s"):
+            file = self.root / "prebuilt" / path
+            data = file.read_bytes()
+            file.write_bytes(data[:5] + bytes([data[5] ^ 1]) + data[6:])
+            self.assertEqual(prebuilt.asked("state"), "damaged", path)
+            status, last, said = self.run_main(OWN, "1", ci="true")
+            self.assertEqual((status, last), (1, "%d passed, 1 failed" % (TOTAL - 1)))
+            self.assertIn("failed: prebuilt/%s is not what the sources give" % path, said)
+            file.write_bytes(data)
+            self.assertEqual(prebuilt.asked("state"), "fresh")
+
+    def test_the_processor_of_each_text(self):
+        words = {text.path: text.words for text in prebuilt.TEXTS}
+        self.assertEqual(words["x86_64/libhll_c.s"], ["--target", prebuilt.X86])
+        self.assertEqual(words["x86_64/libhll_c_v3.s"], ["--target", prebuilt.X86, "--cpu", "x86-64-v3"])
+        self.assertEqual([text.path for text in prebuilt.MODULES], ["x86_64/libhll_c.s", "aarch64/libhll_c.s"])
+
+    def test_names_with_a_suffix(self):
+        text = """\t.section\t.text.hll_add,"ax",@progbits
+\t.globl\thll_add
+\t.type\thll_add,@function
+hll_add:
+\tcallq\ta.b.c.48f335490f6b880f
+\tcallq\trattle_alloc@PLT
+\tleaq\t.LCPI1_0(%rip), %rax
+\tjmp\thll_add_more
+.Lfunc_end1:
+\t.size\thll_add, .Lfunc_end1-hll_add
+\t.type\ta.b.c.48f335490f6b880f,@function
+a.b.c.48f335490f6b880f:
+\t.ascii\t"hll_add"
+"""
+        wanted = text.replace("a.b.c.48f335490f6b880f", "a.b.c.48f335490f6b880f_v3")
+        for before in (".text.hll_add,", "\t.globl\thll_add", ".type\thll_add,", "hll_add:", "\t.size\thll_add,", "1-hll_add\n"):
+            wanted = wanted.replace(before, before.replace("hll_add", "hll_add_v3"))
+        self.assertEqual(prebuilt.with_suffix(text, "_v3"), wanted)
+        self.assertEqual(prebuilt.with_suffix(text, ""), text)
+
     def test_a_changed_text_whose_checksums_were_changed_too(self):
         prebuilt.write(self.verdict(OWN, "2"), texts_of("2"))
         self.assertEqual(prebuilt.asked("state"), "fresh")

@@ -23,11 +23,13 @@ ROOT = pathlib.Path(__file__).resolve().parent.parent
 sys.dont_write_bytecode = True
 sys.path[:0] = [str(ROOT / "scripts"), str(ROOT / "tests")]
 import prebuilt  # noqa: E402
+import proved_calls  # noqa: E402
 from rows import texts  # noqa: E402
 
 C = ROOT / "bindings" / "c"
-OWN = ("estimate", "optional", "state", "counter", "heap")
+OWN = ("estimate", "optional", "state", "counter", "heap", "processor")
 TEXT = "%s/libhll_c.s" % os.uname().machine
+TEXT_V3 = "x86_64/libhll_c_v3.s"
 
 
 def run(*words, cwd):
@@ -40,7 +42,8 @@ def built(place):
     """Builds the library in a scratch folder, and returns the folder of what was built."""
     for file in [*C.glob("*.[ch]"), *C.glob("*.sh"), C / "Makefile", C / "hll.map", C / "hll.pc.in"]:
         shutil.copy(file, place)
-    run("make", "-s", "all", "PROVED=%s" % (prebuilt.PREBUILT / TEXT), cwd=place)
+    v3 = ["PROVED_V3=%s" % (prebuilt.PREBUILT / TEXT_V3)] if os.uname().machine == "x86_64" else []
+    run("make", "-s", "all", "PROVED=%s" % (prebuilt.PREBUILT / TEXT), *v3, cwd=place)
     return place / "build"
 
 
@@ -63,7 +66,7 @@ def shares(build):
     """Bytes of the code of libhll.so: by who says what they are, the proof or a file of C."""
     left, found = sizes(build / "libhll.so"), {}
     for part in ("proved.o", *(name + ".o" for name in OWN)):
-        taken = sizes(build / part) & left
+        taken = (sizes(build / part) - (sizes(build / "processor.o") if part == "proved.o" else collections.Counter())) & left
         found[part] = sum(size * many for (_, size), many in taken.items())
         left -= taken
     found["rest"] = sum(size * many for (_, size), many in left.items())
@@ -73,9 +76,10 @@ def shares(build):
 def calls(build):
     """The calls of the library: those that are proved, those that hand over to a proved one, and those that are C alone."""
     names = re.findall(r"^ *(hll_\w+);$", (C / "hll.map").read_text(), re.M)
-    proved = {name for name, _ in sizes(build / "proved.o")}
-    handed = [name for name in names if "proved_" + name in proved]
-    direct = [name for name in names if name in proved]
+    exported = proved_calls.exported()
+    wrapped = {name for name, _ in sizes(build / "proved.o")}
+    handed = [name for name in names if name in exported and "proved_" + name in wrapped]
+    direct = [name for name in names if name in exported and name not in handed]
     return direct, handed, [name for name in names if name not in direct + handed]
 
 
@@ -90,7 +94,7 @@ def rows_on_proof(verdict):
     yield "proved by", verdict.prover
     for path, lines in sorted(verdict.said.items()):
         words = words_of(lines[-1])
-        over = ", over the contracts of %s" % libraries if path.endswith("libhll_c.s") else ""
+        over = ", over the contracts of %s" % libraries if "/libhll_c" in path else ""
         yield "proved: %s" % path, "%s functions%s: `%s`" % (words["functions"], over, lines[-1])
     words = words_of(verdict.said[TEXT][-1])
     yield "taken as given by the proof", "the logic `%s`; what the prover computes by itself: %s; as they were proved before: %s" % (
@@ -130,8 +134,7 @@ BEGIN, END = "<!-- numbers -->\n", "<!-- end -->\n"
 def numbers():
     """The lines of the page's table: from the verdict, the exports of hll_c and the calls of the library."""
     words = words_of(prebuilt.committed().said[TEXT][-1])
-    sources = (ROOT / "crates" / "hll_c" / "src").glob("*.rt")
-    exports = {name for source in sources for name in re.findall(r"\bfn (hll_\w+)", source.read_text())}
+    exports = proved_calls.exported()
     names = re.findall(r"^ *(hll_\w+);$", (C / "hll.map").read_text(), re.M)
     own = [name for name in names if name not in exports]
     counters = [name for name in own if name.startswith("hll_counter_")]

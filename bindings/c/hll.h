@@ -77,6 +77,7 @@
  *     - Inputs don't change during a call. If another thread writes an end meanwhile, the call may read outside the bytes.
  *     - malloc, realloc and free belong to one allocator, and align to 16 bytes.
  *     - No call is made from a signal handler, or in the child of a fork of a process with threads, because calls use malloc.
+ *     - No other thread changes the environment (setenv) during the first call, which reads it.
  *     - An x86 processor has the instructions of x86-64-v2. On an older processor, glibc's loader rejects the shared
  *       library, and a program that is linked statically ends with SIGILL.
  *
@@ -85,8 +86,15 @@
  *     the comments below, is about as many bytes as its registers or its table have. The comment of each call says what else
  *     it allocates.
  *
+ * Processors
+ *     On Linux on x86-64 the proved calls are there twice: compiled for x86-64-v2, and for x86-64-v3 (AVX2), which is faster for most
+ *     calls. The first call chooses for the whole process, by what the processor and the operating system report. If the environment
+ *     variable HLL_CPU is x86-64-v2 at that time, the code for x86-64-v2 runs. Every other value is ignored, and so is the variable
+ *     in a set-user-ID program. Both write the same bytes, and hll_processor returns which one runs. The choice is plain C
+ *     (bindings/c/processor.c), tested and not proved.
+ *
  * Threads
- *     Calls share no data. Any number of threads may call at once, also with the same inputs. Calls on a state may change the
+ *     Calls share no data but that choice. Any number of threads may call at once, also with the same inputs. Calls on a state may change the
  *     bytes of the state, but hll_state_info doesn't: use a state in one thread at a time. hll_state_image, hll_state_estimate and
  *     the other state of hll_state_join_state change no byte of a state that one of the first two has read since something was
  *     added or merged, or that has registers: then any number of threads may read it.
@@ -106,8 +114,8 @@
  *     - Of the unions that hll_image_merge, hll_images_union and hll_images_unionv write, for canonical images under one lg_max_k:
  *       the bytes don't depend on the order, repetition and grouping of the images (the laws bytes_of_unions of hll_sketch), and
  *       the union is canonical too.
- *     Not proved, but tested: counters, bounds, estimates from coupons, hll_hip_estimate, hll_version, the division of a state's
- *     room by four, and what this header defines itself. Nothing is proved of time, threads, NULL and other libraries. Of memory
+ *     Not proved, but tested: counters, bounds, estimates from coupons, hll_hip_estimate, hll_version, hll_processor, the division of
+ *     a state's room by four, and what this header defines itself. Nothing is proved of time, threads, NULL and other libraries. Of memory
  *     one thing is proved: for which images an allocation may fail.
  */
 #ifndef HLL_H
@@ -220,6 +228,10 @@ typedef struct hll_bytes {
 /* Returns the version of the library. HLL_VERSION_NUMBER is the version of this header. */
 uint32_t hll_version(void);
 
+/* Returns for which processors the code was compiled that runs: "x86-64-v2", "x86-64-v3", "aarch64" or "riscv64". Only on Linux on
+ * x86-64 there is a choice ("processors" above). Allocates nothing. */
+const char *hll_processor(void);
+
 /* ---- what an image says ---- */
 
 /* Reports what an image says about its sketch. info_size is sizeof *info. If it is not the size in this version of the
@@ -230,8 +242,8 @@ hll_status hll_image_info(const uint8_t *image, size_t len, hll_info *info, size
 /* Checks whether the bytes begin with an image.
  * Returns HLL_OK if they do, 1 to 11 if they don't, or HLL_MEMORY. Allocates nothing for at most 128 distinct coupons, or for
  * ascending coupons, of a compact image; for 1 to 128 distinct coupons of an updatable image; for registers of 6 and 8 bits; and
- * for 4-bit registers without exceptions. Allocates the memory of reading for other coupons, and a map for the exceptions of
- * other 4-bit registers. */
+ * for 4-bit registers without exceptions. For other coupons it allocates the memory of reading, and for other 4-bit registers it
+ * may allocate a map of their exceptions. */
 hll_status hll_image_check(const uint8_t *image, size_t len);
 
 /* Measures the image that the bytes begin with: *size is its number of bytes.
@@ -256,7 +268,8 @@ hll_status hll_image_new(unsigned lg_k, unsigned width, uint8_t *out, size_t roo
  * quarters full gets a larger table or becomes registers.
  * The bytes are hashed as they are, as in Python, SQL, Java and C++. The Rust crate datasketches, and update of the crates for
  * Rust and Rattle here, hash a str with a byte ff after it: "ann" from there and "ann" from here are two values.
- * Returns HLL_OK, 1 to 11, HLL_ARGUMENT, HLL_MEMORY or HLL_BUFFER. Allocates the memory of reading, and the image. */
+ * Returns HLL_OK, 1 to 11, HLL_ARGUMENT, HLL_MEMORY or HLL_BUFFER. Allocates the image and, unless registers of 6 or 8 bits hold
+ * all of at most 16 values, the memory of reading. */
 hll_status hll_image_add(const uint8_t *image, size_t len, const uint8_t *values, size_t values_len,
                          const size_t *ends, size_t n, uint8_t *out, size_t room, size_t *size);
 

@@ -15,6 +15,7 @@
 // large sketches should call Close on each one that it doesn't need any more.
 package hll
 
+// #cgo linux,amd64 CFLAGS: -DHLL_WITH_V3
 // #include "hll.h"
 import "C"
 
@@ -67,6 +68,10 @@ func errorOf(status C.hll_status, size int) error {
 	}
 	return errors.New(C.GoString(C.hll_message(status)))
 }
+
+// Processor returns for which processors the code of libhll was compiled that runs: "x86-64-v2", "x86-64-v3" or "aarch64". On Linux
+// on x86-64 the first call chooses, and the environment variable HLL_CPU=x86-64-v2 keeps the first.
+func Processor() string { return C.GoString(C.hll_processor()) }
 
 // start returns the first byte of a slice for C, nil if there is none.
 func start(bytes []byte) *C.uint8_t {

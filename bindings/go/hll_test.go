@@ -57,6 +57,20 @@ func TestKnownImage(t *testing.T) {
 	}
 }
 
+// The check runs all tests with HLL_CPU=x86-64-v2, too.
+func TestProcessor(t *testing.T) {
+	known := map[string][]string{"amd64": {"x86-64-v2", "x86-64-v3"}, "arm64": {"aarch64"}}[runtime.GOARCH]
+	if runtime.GOARCH == "amd64" && os.Getenv("HLL_CPU") == "x86-64-v2" {
+		known = known[:1]
+	}
+	for _, name := range known {
+		if Processor() == name {
+			return
+		}
+	}
+	t.Errorf("the code for %s runs", Processor())
+}
+
 func TestValues(t *testing.T) {
 	one, other := must[*Sketch](t)(New(12)), must[*Sketch](t)(New(12))
 	for _, err := range []error{one.AddInt(-1), one.AddFloat(math.Copysign(0, -1)), one.AddFloat(math.NaN()), one.AddFloat(1.5), one.Add(nil)} {

@@ -59,6 +59,15 @@ hll_pg_version(PG_FUNCTION_ARGS)
 	PG_RETURN_TEXT_P(cstring_to_text(psprintf("%u.%u.%u", number / 1000000, number / 1000 % 1000, number % 1000)));
 }
 
+PG_FUNCTION_INFO_V1(hll_pg_processor);
+
+/* For which processors the code of the library was compiled that runs. */
+Datum
+hll_pg_processor(PG_FUNCTION_ARGS)
+{
+	PG_RETURN_TEXT_P(cstring_to_text(hll_processor()));
+}
+
 PG_FUNCTION_INFO_V1(hll_pg_empty);
 
 Datum

@@ -108,6 +108,9 @@ COMMENT ON FUNCTION hll_first_image(pg_catalog.bytea) IS 'the image with which t
 CREATE FUNCTION hll_version() RETURNS pg_catalog.text
     AS 'MODULE_PATHNAME', 'hll_pg_version' LANGUAGE C STABLE STRICT PARALLEL SAFE;
 COMMENT ON FUNCTION hll_version() IS 'the version of the library that this session has loaded';
+CREATE FUNCTION hll_processor() RETURNS pg_catalog.text
+    AS 'MODULE_PATHNAME', 'hll_pg_processor' LANGUAGE C STABLE STRICT PARALLEL SAFE;
+COMMENT ON FUNCTION hll_processor() IS 'for which processors the code of the library was compiled that runs';
 
 CREATE FUNCTION hyperloglog_empty(lg_k pg_catalog.int8 DEFAULT 12, width pg_catalog.int8 DEFAULT 8) RETURNS hyperloglog
     AS 'MODULE_PATHNAME', 'hll_pg_empty' LANGUAGE C IMMUTABLE STRICT PARALLEL SAFE;

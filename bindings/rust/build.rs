@@ -16,7 +16,7 @@ use std::process::{self, Command};
 
 type Outcome<T = ()> = Result<T, Box<dyn Error>>;
 
-const SOURCES: [&str; 5] = ["estimate", "optional", "state", "counter", "heap"];
+const SOURCES: [&str; 6] = ["estimate", "optional", "state", "counter", "heap", "processor"];
 
 fn main() {
     for name in ["HLL_SYSTEM", "PKG_CONFIG", "PKG_CONFIG_PATH", "PKG_CONFIG_LIBDIR"] {
@@ -77,14 +77,20 @@ fn build_static() -> Outcome {
     let c = folder("c", "../c")?;
     println!("cargo:rerun-if-changed={}", c.display());
     println!("cargo:rerun-if-changed={}", text.display());
+    let text_v3 = Some(text.with_file_name("libhll_c_v3.s")).filter(|text| text.is_file());
+    let flags: &[&str] = if text_v3.is_some() { &["-DHLL_WITH_V3"] } else { &[] };
 
-    let proved = compile(&text, &out.join("libhll_c.o"))?;
+    let proved = compile(&text, &out.join("libhll_c.o"), &[])?;
     let mut objects = Vec::new();
     for name in SOURCES {
-        objects.push(compile(&c.join(name).with_extension("c"), &out.join(name).with_extension("o"))?);
+        objects.push(compile(&c.join(name).with_extension("c"), &out.join(name).with_extension("o"), flags)?);
     }
-    rename_wrapped_calls(&proved, &c)?;
+    rename_proved_calls(&proved, &c, text_v3.is_some())?;
     objects.push(proved);
+    if let Some(text) = text_v3 {
+        println!("cargo:rerun-if-changed={}", text.display());
+        objects.push(compile(&text, &out.join("libhll_c_v3.o"), &[])?);
+    }
     if is_windows()? {
         rename_all(&objects, &c)?;
     } else {
@@ -184,20 +190,26 @@ fn run(command: &mut Command) -> Outcome {
     Ok(())
 }
 
-fn compile(source: &Path, object: &Path) -> Outcome<PathBuf> {
+fn compile(source: &Path, object: &Path, own: &[&str]) -> Outcome<PathBuf> {
     let flags = ["-O2", "-std=c99", "-fPIC", "-Wall", "-c", "-o"];
     let more = from_environment("CFLAGS")?.unwrap_or_default();
-    run(tool("CC", "cc")?.args(more.split_whitespace()).args(flags).arg(object).arg(source))?;
+    run(tool("CC", "cc")?.args(more.split_whitespace()).args(own).args(flags).arg(object).arg(source))?;
     Ok(object.to_path_buf())
 }
 
-/// The C files define some calls of hll.h over the proved ones, which get the prefix `proved_` here.
-fn rename_wrapped_calls(object: &Path, c: &Path) -> Outcome {
+/// The C files define some calls of hll.h over the proved ones, which get the prefix `proved_` here. If there is also a text for
+/// x86-64-v3, processor.c defines all calls over both, and those of the first get the suffix `_v2`.
+fn rename_proved_calls(object: &Path, c: &Path, has_v3: bool) -> Outcome {
     let mut command = tool("OBJCOPY", "objcopy")?;
-    for name in SOURCES {
-        let text = fs::read_to_string(c.join(name).with_extension("c"))?;
-        let declared = text.lines().filter_map(|line| line.strip_prefix("hll_status proved_")?.split('(').next());
-        command.args(declared.map(|call| format!("--redefine-sym={call}=proved_{call}")));
+    for line in fs::read_to_string(c.join("proved_calls.h"))?.lines() {
+        let call = |rest: &str| rest.split(", ").nth(1).unwrap_or_default().to_string();
+        if has_v3 {
+            let found = line.strip_prefix("CALL(").or_else(|| line.strip_prefix("WRAPPED(")).map(call);
+            command.args(found.map(|call| format!("--redefine-sym={call}={call}_v2")));
+        } else {
+            let found = line.strip_prefix("WRAPPED(").map(call);
+            command.args(found.map(|call| format!("--redefine-sym={call}=proved_{call}")));
+        }
     }
     run(command.arg(object))
 }

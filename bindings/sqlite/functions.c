@@ -281,6 +281,14 @@ static void version(sqlite3_context *context, int n, sqlite3_value **values)
     answer_text(context, sqlite3_mprintf("%u.%u.%u", number / 1000000, number / 1000 % 1000, number % 1000));
 }
 
+/* For which processors the code of the library was compiled that runs. */
+static void processor(sqlite3_context *context, int n, sqlite3_value **values)
+{
+    (void)n;
+    (void)values;
+    sqlite3_result_text(context, hll_processor(), -1, SQLITE_STATIC);
+}
+
 /* ---- estimates */
 
 static bool estimation_of(sqlite3_context *context, sqlite3_value *value, hll_estimation *found)
@@ -384,6 +392,7 @@ static const Entry entries[] = {
     {"hll_estimate_bounds", 1, estimate_bounds},
     {"hll_estimate_bounds", 2, estimate_bounds},
     {"hll_version", 0, version},
+    {"hll_processor", 0, processor},
 };
 
 /* Calls the function of an entry. If an argument is NULL, the result is NULL. */
@@ -401,7 +410,7 @@ static void call_strict(sqlite3_context *context, int n, sqlite3_value **values)
 /* An index or a generated column can't have the version, as an update changes it. */
 static int flags_of(const Entry *entry)
 {
-    return entry->function == version ? HLL_FLAGS & ~SQLITE_DETERMINISTIC : HLL_FLAGS;
+    return entry->function == version || entry->function == processor ? HLL_FLAGS & ~SQLITE_DETERMINISTIC : HLL_FLAGS;
 }
 
 int register_functions(sqlite3 *db)

@@ -69,7 +69,8 @@ void answer_image(sqlite3_context *context, const Output *out);
 int register_functions(sqlite3 *db);
 int register_aggregates(sqlite3 *db);
 
-/* All functions but hll_version are deterministic, and all are innocuous: a schema from an untrusted source may call them. */
+/* All functions but hll_version and hll_processor are deterministic, and all are innocuous: a schema from an untrusted source may
+ * call them. */
 #define HLL_FLAGS (SQLITE_UTF8 | SQLITE_DETERMINISTIC | SQLITE_INNOCUOUS)
 
 #endif

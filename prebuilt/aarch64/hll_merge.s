@@ -17847,90 +17847,89 @@ hll_sketch.folding.mode_of_coupons.8a2f8b2564a2651f:
 	.p2align	2
 	.type	hll_coupons.container.Container.image.8a2f8b2564a2651f,@function
 hll_coupons.container.Container.image.8a2f8b2564a2651f:
-	sub	sp, sp, #240
+	sub	sp, sp, #208
 	movi	v0.2d, #0000000000000000
-	stp	x20, x19, [sp, #224]
+	stp	x20, x19, [sp, #192]
 	mov	x19, x0
-	mov	x0, sp
-	stp	x29, x30, [sp, #160]
-	add	x29, sp, #160
-	stp	x26, x25, [sp, #176]
-	stp	x24, x23, [sp, #192]
-	stp	x22, x21, [sp, #208]
+	add	x0, sp, #32
+	stp	x29, x30, [sp, #128]
+	add	x29, sp, #128
+	stp	x26, x25, [sp, #144]
+	stp	x24, x23, [sp, #160]
+	stp	x22, x21, [sp, #176]
 	mov	x21, x3
 	mov	x22, x2
-	stp	xzr, xzr, [sp, #40]
-	stur	xzr, [sp, #62]
-	str	xzr, [sp, #56]
-	stp	q0, q0, [sp]
+	stp	xzr, xzr, [sp, #8]
+	str	xzr, [sp]
+	stp	q0, q0, [sp, #32]
+	stur	xzr, [sp, #22]
 	bl	hll_coupons.container.Container.ascending.9bc580afffac16c1
-	ldrb	w8, [sp]
+	ldrb	w8, [sp, #32]
 	cbz	w8, .LBB37505008_2
-	ldrb	w8, [sp, #1]
+	ldrb	w8, [sp, #33]
 	mov	w9, #1
-	stp	xzr, xzr, [x19, #16]
+	str	xzr, [x19, #24]
 	strb	w9, [x19]
 	strb	w8, [x19, #1]
-	str	xzr, [x19, #8]
-	b	.LBB37505008_22
+	b	.LBB37505008_8
 .LBB37505008_2:
-	ldp	x20, x25, [sp, #8]
-	ldr	x24, [sp, #24]
-	stp	xzr, xzr, [sp, #72]
-	stur	xzr, [sp, #94]
+	ldp	x20, x25, [sp, #40]
+	ldr	x24, [sp, #56]
 	adds	x23, x21, x25, lsl #2
-	str	xzr, [sp, #88]
-	b.eq	.LBB37505008_6
+	b.eq	.LBB37505008_9
 	tbnz	x23, #63, .LBB37505008_5
 	mov	x0, x23
 	mov	w1, #1
 	bl	rattle_alloc
-	tbnz	w0, #0, .LBB37505008_7
+	tbnz	w0, #0, .LBB37505008_10
 .LBB37505008_5:
-	mov	w21, #12
-	mov	w22, #1
-	stur	xzr, [sp, #54]
-	stur	xzr, [sp, #46]
-	stur	xzr, [sp, #62]
-	cbnz	x24, .LBB37505008_20
-	b	.LBB37505008_21
-.LBB37505008_6:
-	sub	x1, x29, #1
+	cbz	x24, .LBB37505008_7
+	mov	x0, x20
+	bl	rattle_dealloc
 .LBB37505008_7:
+	mov	w8, #3073
+	str	xzr, [x19, #24]
+	strh	w8, [x19]
+.LBB37505008_8:
+	stp	xzr, xzr, [x19, #8]
+	b	.LBB37505008_25
+.LBB37505008_9:
+	sub	x1, x29, #1
+.LBB37505008_10:
 	mov	x8, xzr
 	cmp	x21, x23
 	stp	x1, xzr, [x29, #-56]
 	stur	x23, [x29, #-40]
-	b.hi	.LBB37505008_11
+	b.hi	.LBB37505008_14
 	add	x0, x1, x8
 	add	x26, x8, x21
 	sub	x9, x0, x22
 	cmp	x9, x21
-	b.hs	.LBB37505008_13
-.LBB37505008_9:
+	b.hs	.LBB37505008_16
+.LBB37505008_12:
 	ldrb	w8, [x22], #1
 	subs	x21, x21, #1
 	strb	w8, [x0], #1
-	b.ne	.LBB37505008_9
+	b.ne	.LBB37505008_12
 	stp	x26, x23, [x29, #-48]
 	ldur	q0, [x29, #-56]
 	stur	x23, [x29, #-16]
 	stur	q0, [x29, #-32]
-	cbnz	x25, .LBB37505008_14
-	b	.LBB37505008_19
-.LBB37505008_11:
+	cbnz	x25, .LBB37505008_17
+	b	.LBB37505008_22
+.LBB37505008_14:
 	sub	x0, x29, #56
 	mov	x1, x21
 	bl	std_alloc.vec.Vec.grow_amortized.e3d5df6901cfba47
-	cbz	w0, .LBB37505008_26
+	cbz	w0, .LBB37505008_28
 	ldp	x8, x23, [x29, #-48]
 	ldur	x1, [x29, #-56]
 	add	x0, x1, x8
 	add	x26, x8, x21
 	sub	x9, x0, x22
 	cmp	x9, x21
-	b.lo	.LBB37505008_9
-.LBB37505008_13:
+	b.lo	.LBB37505008_12
+.LBB37505008_16:
 	mov	x1, x22
 	mov	x2, x21
 	bl	memmove
@@ -17938,71 +17937,61 @@ hll_coupons.container.Container.image.8a2f8b2564a2651f:
 	ldur	q0, [x29, #-56]
 	stur	x23, [x29, #-16]
 	stur	q0, [x29, #-32]
-	cbz	x25, .LBB37505008_19
-.LBB37505008_14:
+	cbz	x25, .LBB37505008_22
+.LBB37505008_17:
 	ldp	x9, x8, [x29, #-24]
-	mov	x21, x20
-	b	.LBB37505008_16
-.LBB37505008_15:
+	mov	x21, xzr
+	b	.LBB37505008_19
+.LBB37505008_18:
 	ldur	x10, [x29, #-32]
-	subs	x25, x25, #1
+	add	x21, x21, #1
+	cmp	x25, x21
 	str	w22, [x10, x9]
 	add	x9, x9, #4
 	stp	x9, x8, [x29, #-24]
-	b.eq	.LBB37505008_19
-.LBB37505008_16:
+	b.eq	.LBB37505008_22
+.LBB37505008_19:
 	sub	x10, x8, x9
-	ldr	w22, [x21], #4
+	ldr	w22, [x20, x21, lsl #2]
 	cmp	x10, #3
-	b.hi	.LBB37505008_15
+	b.hi	.LBB37505008_18
 	sub	x0, x29, #32
 	mov	w1, #4
 	bl	std_alloc.vec.Vec.grow_amortized.e3d5df6901cfba47
-	cbz	w0, .LBB37505008_23
+	cbz	w0, .LBB37505008_26
 	ldp	x9, x8, [x29, #-24]
-	b	.LBB37505008_15
-.LBB37505008_19:
+	b	.LBB37505008_18
+.LBB37505008_22:
 	ldur	q0, [x29, #-32]
 	ldur	x8, [x29, #-16]
-	mov	w22, wzr
-	mov	w21, wzr
-	stur	q0, [sp, #78]
-	stur	x8, [sp, #94]
-	stur	q0, [sp, #46]
-	stur	x8, [sp, #62]
-	cbz	x24, .LBB37505008_21
-.LBB37505008_20:
+	mov	x9, sp
+	orr	x21, x9, #0x6
+	stur	q0, [sp, #6]
+	stur	x8, [sp, #22]
+	cbz	x24, .LBB37505008_24
 	mov	x0, x20
 	bl	rattle_dealloc
-.LBB37505008_21:
-	ldur	q0, [sp, #46]
-	ldur	x8, [sp, #62]
-	strb	w22, [x19]
-	strb	w21, [x19, #1]
+.LBB37505008_24:
+	ldr	q0, [x21]
+	ldr	x8, [x21, #16]
+	strh	wzr, [x19]
 	stur	q0, [x19, #8]
 	str	x8, [x19, #24]
-.LBB37505008_22:
-	ldp	x20, x19, [sp, #224]
-	ldp	x22, x21, [sp, #208]
-	ldp	x24, x23, [sp, #192]
-	ldp	x26, x25, [sp, #176]
-	ldp	x29, x30, [sp, #160]
-	add	sp, sp, #240
+.LBB37505008_25:
+	ldp	x20, x19, [sp, #192]
+	ldp	x22, x21, [sp, #176]
+	ldp	x24, x23, [sp, #160]
+	ldp	x26, x25, [sp, #144]
+	ldp	x29, x30, [sp, #128]
+	add	sp, sp, #208
 	ret
-.LBB37505008_23:
+.LBB37505008_26:
 	ldur	x8, [x29, #-16]
-	cbz	x8, .LBB37505008_25
+	cbz	x8, .LBB37505008_5
 	ldur	x0, [x29, #-32]
 	bl	rattle_dealloc
-.LBB37505008_25:
-	stur	xzr, [sp, #46]
-	mov	w21, #12
-	mov	w22, #1
-	stur	xzr, [sp, #62]
-	stur	xzr, [sp, #54]
-	cbnz	x24, .LBB37505008_20
-	b	.LBB37505008_21
-.LBB37505008_26:
+	b	.LBB37505008_5
+.LBB37505008_28:
 	ldur	x8, [x29, #-40]
 	cbz	x8, .LBB37505008_5
 	ldur	x0, [x29, #-56]

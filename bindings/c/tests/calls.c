@@ -763,6 +763,146 @@ static void test_stale_words(void)
     free(wanted.at);
 }
 
+/* ---- unions that check and merge in one pass ---- */
+
+/* Unions of images of 8-bit registers, of which the second or the third has one byte above 63: it is rejected, nothing is
+ * written, and the next union of the same images is right. */
+static void test_unions_with_a_great_register(void)
+{
+    unsigned lg_k, which;
+    for (lg_k = 4; lg_k <= 13; lg_k++) {
+        bytes first = image_of_values((uint8_t)lg_k, 8, 1, (size_t)8 << lg_k),
+              second = image_of_values((uint8_t)lg_k, 8, 7, (size_t)9 << lg_k);
+        bytes out = with_room(HLL_IMAGE_MAX(13)), wanted = with_room(HLL_IMAGE_MAX(13));
+        size_t size = 99, at, step = lg_k < 7 ? 1 : 37;
+        hll_bytes parts[3] = {{first.at, first.len}, {second.at, second.len}, {first.at, first.len}};
+        need(hll_image_merge(21, 8, first.at, first.len, second.at, second.len, wanted.at, wanted.len, &wanted.len, NULL) ==
+                 HLL_OK,
+             "a merge");
+        for (at = 40; at < second.len; at += step)
+            for (which = 1; which <= 2; which++) {
+                static const uint8_t great[] = {64, 255};
+                uint8_t kept = second.at[at];
+                size_t failed = 7;
+                parts[1].bytes = which == 1 ? second.at : first.at;
+                parts[2].bytes = which == 1 ? first.at : second.at;
+                second.at[at] = great[at % 2];
+                memset(out.at, 5, out.len);
+                CHECK(hll_images_unionv(21, 8, parts, 3, out.at, out.len, &size, &failed) == HLL_REGISTER &&
+                          failed == which,
+                      "lg_k %u, byte %zu of image %u", lg_k, at, which);
+                CHECK(size == 99 && out.at[0] == 5 && out.at[out.len - 1] == 5, "lg_k %u: something is written", lg_k);
+                second.at[at] = kept;
+            }
+        CHECK(hll_images_unionv(21, 8, parts, 3, out.at, out.len, &size, NULL) == HLL_OK && size == wanted.len &&
+                  memcmp(out.at, wanted.at, size) == 0,
+              "lg_k %u: the union", lg_k);
+        free(first.at);
+        free(second.at);
+        free(out.at);
+        free(wanted.at);
+    }
+}
+
+/* A union of registers and of an image of 4-bit registers: the registers are the greater ones, or it is rejected for the reason of
+ * hll_image_check. */
+static void check_union_with(const uint8_t *registers, size_t count, const bytes *first, const bytes *image,
+                             const char *what)
+{
+    uint8_t greater[4096], lg_k;
+    bytes out = with_room(HLL_IMAGE_MAX(12)), wanted = with_room(HLL_IMAGE_MAX(12));
+    hll_bytes parts[2] = {{first->at, first->len}, {image->at, image->len}};
+    size_t size = 0, failed = 7;
+    hll_status expected = hll_image_check(image->at, image->len),
+               status = hll_images_unionv(12, 8, parts, 2, out.at, out.len, &size, &failed);
+    CHECK(status == expected && (expected == HLL_OK || failed == 1), "%s: %d instead of %d", what, (int)status,
+          (int)expected);
+    memcpy(greater, registers, count);
+    if (expected == HLL_OK && hll_registers_merge(greater, count, image->at, image->len, &lg_k) == HLL_OK) {
+        need(hll_registers_image(greater, count, 8, wanted.at, wanted.len, &wanted.len) == HLL_OK, "an image of registers");
+        CHECK(size == wanted.len && memcmp(out.at, wanted.at, size) == 0, "%s: other registers", what);
+    }
+    free(out.at);
+    free(wanted.at);
+}
+
+/* Images of 4-bit registers with up to ten exceptions, whole and with each bit of their counts and exceptions, and some of their
+ * nibbles, changed. At most eight exceptions need no map. */
+static void test_unions_with_exceptions(void)
+{
+    static const unsigned sizes[] = {4, 6, 10};
+    size_t which, exceptions, i, at, bit;
+    for (which = 0; which < 3; which++)
+        for (exceptions = 0; exceptions <= 10; exceptions++) {
+            size_t count = (size_t)1 << sizes[which];
+            uint8_t registers[4096], others[4096];
+            bytes first = with_room(HLL_IMAGE_MAX(12)), image = with_room(HLL_IMAGE_MAX(12));
+            for (i = 0; i < count; i++)
+                registers[i] = (uint8_t)(3 + i % 5), others[i] = (uint8_t)(1 + 7 * i % 9);
+            for (i = 0; i < exceptions; i++)
+                others[(37 * i + 5) % count] = (uint8_t)(16 + 4 * i);
+            need(hll_registers_image(registers, count, 8, first.at, first.len, &first.len) == HLL_OK &&
+                     hll_registers_image(others, count, 4, image.at, image.len, &image.len) == HLL_OK,
+                 "images of registers");
+            check_union_with(registers, count, &first, &image, "a union with exceptions");
+            for (at = 32; at < image.len; at += at == 40 + count / 16 ? count / 2 - count / 16 : 1)
+                for (bit = 0; bit < 8; bit += sizes[which] == 10 ? 3 : 1) {
+                    image.at[at] ^= (uint8_t)(1u << bit);
+                    check_union_with(registers, count, &first, &image, "a changed bit");
+                    image.at[at] ^= (uint8_t)(1u << bit);
+                }
+            free(first.at);
+            free(image.at);
+        }
+}
+
+/* Registers of 0 that are merged into registers change nothing, the estimator fields included. */
+static void test_unions_with_no_values(void)
+{
+    bytes first = image_of_values(12, 8, 1, 20000), zeros = with_room(first.len), out = with_room(first.len);
+    hll_bytes parts[2] = {{first.at, first.len}, {zeros.at, zeros.len}};
+    size_t size = 0;
+    memcpy(zeros.at, first.at, 40);
+    memset(zeros.at + 8, 0, 24);
+    memset(zeros.at + 40, 0, zeros.len - 40);
+    zeros.at[32] = 0, zeros.at[33] = 16;
+    first.at[5] &= (uint8_t)~16;
+    memset(first.at + 8, 7, 24);
+    CHECK(hll_images_unionv(12, 8, parts, 2, out.at, out.len, &size, NULL) == HLL_OK && size == first.len &&
+              memcmp(out.at, first.at, size) == 0,
+          "registers of 0 change the fields");
+    free(first.at);
+    free(zeros.at);
+    free(out.at);
+}
+
+/* Values that registers hold: the image is that of a conversion to its own width. */
+static void test_held_values(void)
+{
+    static const uint8_t widths[] = {4, 6, 8};
+    size_t which, count;
+    for (which = 0; which < 3; which++)
+        for (count = 0; count <= 40; count++) {
+            bytes image = image_of_values(12, widths[which], 1, 20000), out = with_room(image.len + 64),
+                  wanted = with_room(image.len + 64);
+            uint8_t values[320] = {0};
+            size_t ends[40], i;
+            for (i = 0; i < count; i++) {
+                values[8 * i] = (uint8_t)(1 + 5 * i);
+                ends[i] = 8 * (i + 1);
+            }
+            image.at[5] &= (uint8_t)~16;
+            memset(image.at + 8, 7, 24);
+            need(hll_image_convert(image.at, image.len, 0, wanted.at, wanted.len, &wanted.len) == HLL_OK, "a conversion");
+            CHECK(hll_image_add(image.at, image.len, values, 8 * count, ends, count, out.at, out.len, &out.len) == HLL_OK &&
+                      out.len == wanted.len && memcmp(out.at, wanted.at, out.len) == 0,
+                  "%u bits, %zu held values", widths[which], count);
+            free(image.at);
+            free(out.at);
+            free(wanted.at);
+        }
+}
+
 int main(void)
 {
     test_reasons();
@@ -793,5 +933,9 @@ int main(void)
     test_sizes_in_headers();
     test_other_info();
     test_null();
+    test_unions_with_a_great_register();
+    test_unions_with_exceptions();
+    test_unions_with_no_values();
+    test_held_values();
     return finish("calls, each with its codes");
 }

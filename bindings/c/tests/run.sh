@@ -20,6 +20,8 @@ wraps='-Wl,--wrap=malloc,--wrap=calloc,--wrap=realloc,--wrap=aligned_alloc,--wra
 rows=../../crates/hll_vectors/stdin
 top=$(cd ../.. && pwd)
 text=$top/prebuilt/$($CC -dumpmachine | cut -d- -f1)/libhll_c.s
+text_v3=
+[ "$(uname -m)" != x86_64 ] || text_v3=${text%.s}_v3.s
 arm=aarch64-unknown-linux-gnu
 version=$(sed -n 's/^#define HLL_VERSION_[A-Z]* \([0-9]*\)$/\1/p' hll.h | paste -sd. -)
 # HLL_WALKS=tenth in the environment makes a tenth of the random walks.
@@ -31,6 +33,7 @@ if [ "${HLL_WALKS:-}" = tenth ]; then
 fi
 rm -rf "$tests"
 mkdir -p "$tests" || exit 1
+unset HLL_CPU
 
 # The walks are made by a script, which needs Python; a source package has them.
 if (cd ../../tests && sha256sum --check --status walks.sha256 2>/dev/null); then
@@ -64,7 +67,7 @@ test_header() {
 
 # The calls that the header declares, and the names that a library shows.
 declared() {
-    sed -n 's/^\(hll_status\|uint32_t\|void\) \(hll_[a-z_0-9]*\)(.*/\2/p' hll.h | sort
+    sed -n 's/^\(hll_status \|uint32_t \|void \|const char \*\)\(hll_[a-z_0-9]*\)(.*/\2/p' hll.h | sort
 }
 
 shown() {
@@ -82,13 +85,52 @@ test_expected() {
 
 test_names() {
     declared >"$tests/declared"
-    expect 'sixty calls are declared' test "$(wc -l <"$tests/declared")" -eq 60
+    expect 'sixty-one calls are declared' test "$(wc -l <"$tests/declared")" -eq 61
     shown -D --defined-only "$build/libhll.so" >"$tests/shown"
     expect 'names of the shared library' diff "$tests/declared" "$tests/shown"
     shown -g --defined-only "$build/libhll.a" >"$tests/shown"
     expect 'names of the archive' diff "$tests/declared" "$tests/shown"
     sed -n 's/^ *\(hll_[a-z_0-9]*\);$/\1/p' hll.map | sort >"$tests/shown"
     expect 'names of the map' diff "$tests/declared" "$tests/shown"
+}
+
+# ---- with which code the tests run
+
+# On Linux on x86-64 the library has code for x86-64-v2 and for x86-64-v3. If this processor lacks the latter's instructions, an
+# emulator runs it.
+with_v3() {
+    $emulated_v3 "$@"
+}
+
+with_v2() {
+    HLL_CPU=x86-64-v2 "$@"
+}
+
+# Chooses how the code for x86-64-v3 is run.
+find_v3() {
+    has_v3=no
+    emulated_v3=
+    [ -n "$text_v3" ] || return 0
+    if "$tests/processors" x86-64-v3 >"$tap_said" 2>&1; then
+        has_v3=yes
+    elif has qemu-x86_64; then
+        has_v3=yes
+        emulated_v3='qemu-x86_64 -cpu max'
+    else
+        skip 'the code for x86-64-v3' 'this processor has no AVX2, and qemu-x86_64 is not here'
+    fi
+}
+
+# run_each NAME COMMAND ..: a test, with each code that the library has.
+run_each() {
+    each=$1
+    shift
+    if [ -z "$text_v3" ]; then
+        run "$each" "$@"
+        return
+    fi
+    [ "$has_v3" = no ] || run "$each, x86-64-v3" with_v3 "$@"
+    run "$each, x86-64-v2" with_v2 "$@"
 }
 
 # ---- the calls
@@ -111,24 +153,78 @@ compile() {
 }
 
 test_calls() {
-    for name in calls buffers estimates rows registers states counters; do
+    for name in calls buffers estimates rows registers states counters processors; do
         compile "$name" "$build/libhll.a"
     done
     compile counter_threads "$build/libhll.a" -pthread
     compile threads "$build/libhll.a" -pthread
     compile refusals "$build/libhll.a" "$wraps"
     compile calls-shared -L"$build" -lhll -Wl,-rpath,"$build"
-    run calls "$tests/calls"
-    run 'calls, shared library' env LD_LIBRARY_PATH="$build" "$tests/calls-shared"
-    run buffers "$tests/buffers"
-    run refusals "$tests/refusals"
-    run threads "$tests/threads"
-    run estimates "$tests/estimates"
-    run rows "$tests/rows" $rows
-    run registers "$tests/registers" $sequences
-    run states "$tests/states" $walks
-    run counters "$tests/counters" 300
-    run 'threads that read a counter' "$tests/counter_threads"
+    find_v3
+    run_each calls "$tests/calls"
+    run_each 'calls, shared library' "$tests/calls-shared"
+    run_each buffers "$tests/buffers"
+    run_each refusals "$tests/refusals"
+    run_each threads "$tests/threads"
+    run_each estimates "$tests/estimates"
+    run_each rows "$tests/rows" $rows
+    run_each registers "$tests/registers" $sequences
+    run_each states "$tests/states" $walks
+    run_each counters "$tests/counters" 300
+    run_each 'threads that read a counter' "$tests/counter_threads"
+}
+
+# ---- the code for both levels of x86-64
+
+# Compares what both wrote over the same random images.
+same_results() {
+    cmp "$1" "$2" && echo "$(wc -l <"$1") passed, 0 failed"
+}
+
+# linked NAME FLAG ..: the program that says which code runs, linked in one way. It runs with each, before main, too.
+linked() {
+    how=$1
+    shift
+    build "test of processors compiles, $how" $CC $test_flags -o "$tests/processors-linked" tests/processors.c "$@"
+    [ "$has_v3" = no ] || run "processors, $how, x86-64-v3" with_v3 "$tests/processors-linked" x86-64-v3 200 "$tests/linked-v3"
+    run "processors, $how, x86-64-v2" with_v2 "$tests/processors-linked" x86-64-v2 200 "$tests/linked-v2"
+    [ "$has_v3" = no ] || run "the same results, $how" same_results "$tests/linked-v3" "$tests/linked-v2"
+}
+
+# Whether ld can mark a file with the processor that it needs, as it can since binutils 2.36.
+can_mark() {
+    ! ld -z x86-64-v2 --version 2>&1 | grep -q 'x86-64-v2 ignored'
+}
+
+# The bytes of a library have the mark of x86-64-v2, and of no other level.
+has_mark() {
+    readelf -n "$1" >"$tests/notes" && [ "$(sed -n 's/.*x86 ISA needed: *//p' "$tests/notes")" = x86-64-v2 ]
+}
+
+test_both() {
+    [ -n "$text_v3" ] || return 0
+    images=20000
+    [ -z "$emulated_v3" ] || images=2000
+    run 'processors, x86-64-v2' with_v2 "$tests/processors" x86-64-v2 $images "$tests/images-v2"
+    [ "$has_v3" = no ] || run 'processors, x86-64-v3' with_v3 "$tests/processors" x86-64-v3 $images "$tests/images-v3"
+    [ "$has_v3" = no ] || run "the same results over $images images" same_results "$tests/images-v3" "$tests/images-v2"
+    linked 'shared' -L"$build" -lhll -Wl,-rpath,"$PWD/$build"
+    LD_BIND_NOW=1
+    export LD_BIND_NOW
+    linked 'shared, bound at the start' -L"$build" -lhll -Wl,-rpath,"$PWD/$build" -Wl,-z,lazy
+    unset LD_BIND_NOW
+    linked 'static' -static "$build/libhll.a"
+    linked 'static-pie' -static-pie "$build/libhll.a"
+    linked 'not PIE' -no-pie -fno-pie "$build/libhll.a"
+    if can_mark; then
+        expect 'the mark of the shared library' has_mark "$build/libhll.so"
+        expect 'the mark of the archive' has_mark "$build/hll.o"
+    else
+        skip 'the mark of x86-64-v2' 'this version of ld has none'
+    fi
+    build 'test of what is chosen compiles' $CC $test_flags -DHLL_WITH_V3 -o "$tests/chooser" tests/chooser.c "$build/named.o" \
+        "$build/libhll_c_v3.o" "$build/heap.o"
+    [ "$has_v3" = no ] || run 'what is chosen' with_v3 "$tests/chooser"
 }
 
 test_memory() {
@@ -139,7 +235,7 @@ test_memory() {
     kinds='definite,possible'
     clean="valgrind --quiet --error-exitcode=9 --leak-check=full"
     clean="$clean --show-leak-kinds=$kinds --errors-for-leak-kinds=$kinds"
-    run 'calls in valgrind' $clean "$tests/calls"
+    run_each 'calls in valgrind' $clean "$tests/calls"
     run 'buffers in valgrind' $clean "$tests/buffers" small
     run 'refusals in valgrind' $clean "$tests/refusals"
     run 'estimates in valgrind' $clean "$tests/estimates" 9973
@@ -237,7 +333,7 @@ make_in() {
 # Builds the libraries in two folders, from the same text: they are the same bytes.
 try_two_folders() {
     for place in one another-folder; do
-        make_in "$tests/$place" "$text" || return 1
+        make_in "$tests/$place" "$text" PROVED_V3="$text_v3" all || return 1
     done
     cmp "$tests/one/build/libhll.so" "$tests/another-folder/build/libhll.so" || return 1
     cmp "$tests/one/build/libhll.a" "$tests/another-folder/build/libhll.a"
@@ -305,7 +401,8 @@ try_without_rt() {
     done
     make_without_rt -s && cmp "$place/bindings/c/build/libhll.so" "$build/libhll.so" &&
         say_why 'a proved source has changed' crates/hll_base/src/lib.rt &&
-        say_why 'not as it was made' "prebuilt/${text#"$top/prebuilt/"}" && say_why 'not as it was made' prebuilt/VERDICT
+        say_why 'not as it was made' "prebuilt/${text#"$top/prebuilt/"}" && say_why 'not as it was made' prebuilt/VERDICT &&
+        { [ -z "$text_v3" ] || say_why 'not as it was made' "prebuilt/${text_v3#"$top/prebuilt/"}"; }
     found=$?
     rm -rf "$place"
     return $found
@@ -337,8 +434,16 @@ test_processors() {
     export LD_LIBRARY_PATH
     expect 'an older processor, shared library' refused_on_old "$tests/calls-shared"
     run 'calls on a processor of x86-64-v2' qemu-x86_64 -cpu Nehalem "$tests/calls"
+    run 'calls on a processor of x86-64-v2, shared library' qemu-x86_64 -cpu Nehalem "$tests/calls-shared"
     run 'registers on a processor of x86-64-v2' qemu-x86_64 -cpu Nehalem "$tests/registers" 20 small
     unset LD_LIBRARY_PATH
+    run 'processors, on a processor of x86-64-v2' qemu-x86_64 -cpu Nehalem "$tests/processors" x86-64-v2 100 "$tests/emulated-v2"
+    run 'processors, on one of x86-64-v3' qemu-x86_64 -cpu max "$tests/processors" x86-64-v3 100 "$tests/emulated-v3"
+    run 'the same results, on both' same_results "$tests/emulated-v3" "$tests/emulated-v2"
+    # (not bmi1, whose instructions functions of glibc use wherever there is AVX2; the test of what is chosen has it)
+    for lacks in avx avx2 bmi2 fma f16c movbe abm xsave; do
+        run "processors, on one of x86-64-v3 without $lacks" qemu-x86_64 -cpu "max,-$lacks" "$tests/processors" x86-64-v2
+    done
 }
 
 # A static program with the C library of musl. The library is built by the same compiler, and so are the programs.
@@ -357,17 +462,22 @@ programs_by_musl() {
 
 test_musl() {
     has musl-gcc || { skip 'musl' 'musl-gcc is not here'; return; }
-    build 'the library, with musl' make_in "$tests/musl" "$text" CC=musl-gcc build/libhll.a
-    for name in calls buffers estimates rows registers states threads; do
+    build 'the library, with musl' make_in "$tests/musl" "$text" PROVED_V3="$text_v3" CC=musl-gcc build/libhll.a
+    for name in calls buffers estimates rows registers states threads processors; do
         build "test of $name compiles, with musl" by_musl $name
     done
     build 'test of refusals compiles, with musl' by_musl refusals "$wraps"
     for name in calls buffers estimates threads refusals; do
-        run "$name, with musl" "$tests/$name-musl"
+        run_each "$name, with musl" "$tests/$name-musl"
     done
-    run 'rows, with musl' "$tests/rows-musl" $rows
-    run 'registers, with musl' "$tests/registers-musl" 200
-    run 'states, with musl' "$tests/states-musl" 100
+    run_each 'rows, with musl' "$tests/rows-musl" $rows
+    run_each 'registers, with musl' "$tests/registers-musl" 200
+    run_each 'states, with musl' "$tests/states-musl" 100
+    if [ -n "$text_v3" ]; then
+        [ "$has_v3" = no ] || run 'processors, with musl, x86-64-v3' with_v3 "$tests/processors-musl" x86-64-v3 200 "$tests/musl-v3"
+        run 'processors, with musl, x86-64-v2' with_v2 "$tests/processors-musl" x86-64-v2 200 "$tests/musl-v2"
+        [ "$has_v3" = no ] || run 'the same results, with musl' same_results "$tests/musl-v3" "$tests/musl-v2"
+    fi
     expect 'both programs, with musl' programs_by_musl
 }
 
@@ -438,6 +548,7 @@ else
     test_names
     test_expected
     test_calls
+    test_both
     test_memory
     test_sanitized
     expect 'the example' try_example "$build/example"

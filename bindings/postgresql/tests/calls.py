@@ -1,6 +1,7 @@
 # SPDX-License-Identifier: Apache-2.0
 """Calls of one image or two, and small aggregates, beside the program, the plain model and docs/FORMAT.md."""
 import itertools
+import os
 import random
 import re
 import struct
@@ -11,6 +12,34 @@ from images import (greatest, image_of, image_of_coupons, image_of_values, merge
 from report import (ARGUMENT, IMAGE, NULL, REASONS, SEED, all_bytes_of, answer_of, bytes_of, check, equal, literal,
                     load, refused, union_of)
 from rows import rows_in, texts
+
+# ---- both codes of the library
+
+# Images of each width, of coupons and of registers, with unions, folds, conversions and estimates of them.
+OF_BOTH = """CREATE TEMP TABLE images AS SELECT lg_k, width, most, hll_image_add_agg(x, lg_k, width) AS image
+        FROM generate_series(1, 6000) x, unnest(ARRAY[4, 7, 10, 12]) lg_k, unnest(ARRAY[4, 6, 8]) width, unnest(ARRAY[5, 100, 6000]) most
+        WHERE x <= most GROUP BY lg_k, width, most;
+    SELECT image, hll_info(image), hll_estimate(image), hll_estimate_bounds(image), hll_fold(image, 4), hll_convert(image, 6) FROM images
+        ORDER BY lg_k, width, most;
+    SELECT hll_image_union_agg(image, 12), hll_image_union_agg(image, 9, 4), hyperloglog_union_agg(image, 11) FROM images;
+    SELECT md5(hll_merge(a.image, b.image, 12)::text), hll_agree(a.image, b.image) FROM images a, images b
+        ORDER BY a.lg_k, a.width, a.most, b.lg_k, b.width, b.most"""
+
+
+def both_codes(server):
+    """With the code for x86-64-v2, which HLL_CPU in the server's environment chooses, each answer is the same."""
+    if os.uname().machine != "x86_64":
+        return
+    check("the code that runs", server.ask("SELECT hll_processor()") in ("x86-64-v2", "x86-64-v3"), "")
+    answers = server.ask(OF_BOTH).split("\n")
+    equal("answers", len(answers), 36 + 1 + 36 * 36)
+    server.begin_again(HLL_CPU="x86-64-v2")
+    equal("the code for x86-64-v2", server.ask("SELECT hll_processor()"), "x86-64-v2")
+    for number, (one, other) in enumerate(zip(answers, server.ask(OF_BOTH).split("\n"))):
+        equal("answer %d" % number, other, one)
+    worked_rows(server)
+    server.begin_again()
+
 
 # ---- worked rows
 

@@ -89,7 +89,7 @@ def short_names(server):
 
 
 def marks(server):
-    """Functions are immutable (but the version is stable) and parallel safe, and strict but for those that see NULLs; another schema serves too."""
+    """Functions are immutable (but the version and the processor are stable) and parallel safe, and strict but for those that see NULLs; another schema serves too."""
     found = server.ask("""SELECT proname, provolatile, proparallel, proisstrict
         FROM pg_proc JOIN pg_depend ON objid = pg_proc.oid JOIN pg_extension e ON refobjid = e.oid
         WHERE extname = 'hll_sketches' AND classid = 'pg_proc'::regclass""").split("\n")
@@ -97,7 +97,7 @@ def marks(server):
     for line in found:
         name, *said = line.split("|")
         sees_nulls = re.search("_trans|_combine|_final|_agg|^hll_add$", name) is not None
-        equal("marks of " + name, said, ["s" if name == "hll_version" else "i", "s", "f" if sees_nulls else "t"])
+        equal("marks of " + name, said, ["s" if name in ("hll_version", "hll_processor") else "i", "s", "f" if sees_nulls else "t"])
     server.ask("CREATE DATABASE elsewhere")
     server.ask("""CREATE SCHEMA sketches;
         CREATE EXTENSION hll_sketches SCHEMA sketches;

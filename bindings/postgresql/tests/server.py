@@ -177,6 +177,21 @@ class Server:
                 (extensions / ("%s--%s--%s.sql" % (name, version, VERSION))).write_text(change)
 
     def start(self):
+        self.prepare()
+        self.begin()
+
+    def begin(self, **more):
+        """Starts the server, with more in its environment."""
+        self.run_server(**more)
+        self.await_start()
+
+    def begin_again(self, **more):
+        """Ends the server, and starts it with more in its environment."""
+        self.process.send_signal(signal.SIGINT)
+        self.process.wait(60)
+        self.begin(**more)
+
+    def prepare(self):
         data, self.socket = self.root / "data", self.root / "socket"
         for path in (data, self.socket):
             path.mkdir(mode=0o700)
@@ -190,12 +205,15 @@ class Server:
         with open(data / "postgresql.conf", "a") as settings:
             settings.write(self.settings)
         self.environment = dict(os.environ, PGHOST=str(self.socket), PGUSER="postgres", PGDATABASE="postgres", PGOPTIONS="")
-        self.environment.pop("PGPORT", None)
+        for name in "PGPORT", "HLL_CPU":
+            self.environment.pop(name, None)
+
+    def run_server(self, **more):
+        """Starts the server over its data, also again after it ended, and doesn't wait for it."""
         with open(self.root / "log", "wb") as log:
             self.process = subprocess.Popen(
-                [self.inside(self.bin) / "postgres", "-D", data, "-k", self.socket], cwd="/", env=self.environment,
+                [self.inside(self.bin) / "postgres", "-D", self.root / "data", "-k", self.socket], cwd="/", env={**self.environment, **more},
                 stdin=subprocess.DEVNULL, stdout=log, stderr=log, preexec_fn=end_with_parent(signal.SIGINT), **self.as_user)
-        self.await_start()
 
     def await_start(self):
         ready = [self.bin / "psql", "-X", "-q", "-c", "SELECT 1"]

@@ -15,6 +15,7 @@ The calls of the C library that read, make and merge sketches are proved correct
 estimates from registers. Bounds, estimates from coupons, and this package itself are tested.
 """
 from ._errors import ArgumentError, FilesError, HllError, ImageError, PrecisionError
+from ._library import processor
 from ._values import Value, coupon, coupons
 from .archive import ArchiveError, read_archive, write_archive
 from .merging import merge_files
@@ -41,6 +42,7 @@ __all__ = [
     "is_image",
     "is_small",
     "merge_files",
+    "processor",
     "read_archive",
     "union_of",
     "write_archive",

@@ -19,7 +19,7 @@ from ctypes import c_uint, c_uint8, c_uint32, c_uint64
 from itertools import accumulate
 from operator import index
 from typing import TYPE_CHECKING, Callable, Dict, Iterable, List, Optional, Sequence, SupportsIndex
-from typing import Type, TypeVar
+from typing import Type, TypeVar, cast
 
 from ._errors import ArgumentError, ImageError
 from ._locks import loading
@@ -181,6 +181,7 @@ _CALLS = {
     "hll_estimate": _IMAGE + [POINTER(Estimation)],
     "hll_hip_estimate": _IMAGE + [POINTER(Estimation)],
     "hll_version": [],
+    "hll_processor": [],
     "hll_registers_add": _REGISTERS + _IMAGE + _ENDS,
     "hll_registers_add_coupons": _REGISTERS + [c_void_p, c_size_t],
     "hll_registers_merge": _REGISTERS + _IMAGE + [POINTER(c_uint8)],
@@ -202,6 +203,7 @@ _CALLS = {
 _ANSWERS: Dict[str, object] = {
     "hll_coupon": c_uint32,
     "hll_version": c_uint32,
+    "hll_processor": ctypes.c_char_p,
     "hll_counter_free": None,
     "hll_counter_shrink": None,
 }
@@ -452,6 +454,14 @@ def room_for(lg_k: int) -> int:
 
 
 # ---- the calls
+
+
+def processor() -> str:
+    """Returns for which processors the code of the C library was compiled that runs: ``x86-64-v2``,
+    ``x86-64-v3``, ``aarch64`` or ``riscv64``. On Linux on x86-64 the first call of the library chooses,
+    and the environment variable ``HLL_CPU=x86-64-v2`` keeps the first. Raises ``ImportError`` if the
+    library can't be loaded."""
+    return cast("bytes", _library.hll_processor()).decode()
 
 
 def new(lg_k: int, width: int) -> bytes:

@@ -11,7 +11,7 @@ import sys
 import textwrap
 from typing import Any, Callable, Dict, List, Optional
 
-from . import __version__, commands
+from . import __version__, commands, processor
 from ._names import ESCAPING
 from ._signals import end_at_once
 from .adding import LONGEST_LINE
@@ -295,11 +295,24 @@ class _Parser(argparse.ArgumentParser):
             super()._print_message(message, file)
 
 
+class _Version(argparse.Action):
+    """Prints the version, and for which processors the code of the C library was compiled."""
+
+    def __call__(self, parser: argparse.ArgumentParser, *_: object) -> None:
+        try:
+            code = processor()
+        except ImportError:
+            code = "no libhll"
+        commands.put_text(f"hll {__version__} ({code})\n")
+        parser.exit()
+
+
 def make_parser() -> argparse.ArgumentParser:
     """Returns the parser of all commands."""
     raw = argparse.RawDescriptionHelpFormatter
     parser = _Parser("hll", None, _ABOUT, _NOTES, formatter_class=raw)
-    parser.add_argument("--version", action="version", version=f"hll {__version__}")
+    shown = "show the version, and for which processors the C library runs, and exit"
+    parser.add_argument("--version", action=_Version, nargs=0, default=argparse.SUPPRESS, help=shown)
     several = parser.add_subparsers(dest="command", metavar="COMMAND", required=True)
     for name, arguments, what, example in _COMMANDS:
         about = textwrap.fill(f"{what[0].upper()}{what[1:]}. {_MORE.get(name, '')}", 78)

@@ -23,7 +23,7 @@ from unittest import mock
 
 import common  # noqa: F401, for the path
 from command import COMMAND, CUT, CommandTest, TEXT, TRUNCATED, environment, interruptible
-from hll_sketches import Sketch, __version__, _library, adding, cli, commands, fault_of, files, layout, write_archive
+from hll_sketches import Sketch, __version__, _library, adding, cli, commands, fault_of, files, layout, processor, write_archive
 from hll_sketches._errors import explained
 from hll_sketches._names import shown
 from mutants import KINDS, Mutants
@@ -73,7 +73,7 @@ class HelpTest(CommandTest):
             self.assertRegex(out, rf"example:\n  .*hll {name} ")
 
     def test_version(self):
-        self.assertEqual(self.succeeds("--version"), f"hll {__version__}\n".encode())
+        self.assertEqual(self.succeeds("--version"), f"hll {__version__} ({processor()})\n".encode())
 
     def test_wrong_command_lines(self):
         self.assertEqual(self.run_hll()[:2], (2, b""))
@@ -128,9 +128,10 @@ class LibraryTest(CommandTest):
         self.assertEqual(self.listed(), ["a.hll", "libhll.so"])
 
     def test_without_a_call(self):
-        for word in ("--version", "--help"):
-            status, out, err = self.copied(word, library="none.so")
-            self.assertEqual((status, out, err), (0, self.succeeds(word), ""))
+        status, out, err = self.copied("--help", library="none.so")
+        self.assertEqual((status, out, err), (0, self.succeeds("--help"), ""))
+        status, out, err = self.copied("--version", library="none.so")
+        self.assertEqual((status, out, err), (0, f"hll {__version__} (no libhll)\n".encode(), ""))
 
 
 class NewTest(CommandTest):

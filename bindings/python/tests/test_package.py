@@ -230,6 +230,7 @@ EMPTY(hll_registers_add) EMPTY(hll_registers_add_coupons)
 EMPTY(hll_registers_merge) EMPTY(hll_registers_merge_registers) EMPTY(hll_registers_fold)
 EMPTY(hll_registers_histogram) EMPTY(hll_registers_image) EMPTY(hll_registers_estimate)
 uint32_t hll_version(void) { return VERSION; }
+const char *hll_processor(void) { return "other"; }
 #ifndef WITHOUT
 u8 hll_image_histogram(const u8 *image, size_t len, uint64_t *counts)
 { memset(counts, 0, 512); counts[0] = 1023; counts[COUNT] = 1; return 0; }
@@ -424,6 +425,23 @@ class ProcessorTest(CommandTest):
         self.assertFalse((self.folder / "a.hll").exists())
         done = self.on("Nehalem")
         self.assertEqual((done.returncode, done.stderr), (0, ""))
+
+    def test_the_variable(self):
+        """The first call reads HLL_CPU, and both codes make the same image."""
+        if not (BUILD / "libhll.so").exists():
+            self.skipTest("bindings/c/build is not here")
+        code = ("import hashlib, os, hll_sketches as h; s = h.Sketch(); s.update_many(range(50_000)); print(h.processor()); "
+                "os.environ['HLL_CPU'] = 'x86-64-v2'; print(h.processor(), hashlib.sha256(s.to_bytes()).hexdigest())")
+        said = {}
+        for value in ("x86-64-v2", "x86-64-v9", ""):
+            done = subprocess.run([sys.executable, "-c", code], cwd=self.folder, text=True, capture_output=True,
+                                  env=plain_environment(PYTHONPATH=str(common.PACKAGE), HLL_CPU=value))
+            said[value] = done.stdout.split()
+            self.assertEqual((done.stderr, said[value][0]), ("", said[value][1]))
+        self.assertEqual(said["x86-64-v2"][0], "x86-64-v2")
+        self.assertEqual(said["x86-64-v9"], said[""])
+        self.assertIn(said[""][0], ("x86-64-v2", "x86-64-v3"))
+        self.assertEqual(said["x86-64-v2"][2], said[""][2])
 
 
 if __name__ == "__main__":

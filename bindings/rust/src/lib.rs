@@ -16,6 +16,16 @@ pub mod hll;
 #[allow(unsafe_code)]
 mod libhll;
 
+/// Returns for which processors the code of `libhll` was compiled that runs: `x86-64-v2`, `x86-64-v3`, `aarch64` or `riscv64`. On
+/// Linux on x86-64 the first call chooses, and the environment variable `HLL_CPU=x86-64-v2` keeps the first.
+///
+/// ```
+/// println!("{}", hll_sketches::processor());
+/// ```
+pub fn processor() -> &'static str {
+    libhll::processor()
+}
+
 /// The README's programs are tests of the documentation.
 #[cfg(doctest)]
 #[doc = include_str!("../README.md")]

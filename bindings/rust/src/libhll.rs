@@ -5,9 +5,9 @@
 //! `Vec` together with its length; what a call writes is borrowed as `&mut`, or is memory that nobody else has, so it
 //! overlaps nothing; and no input changes while a call runs, because it is borrowed.
 
-use std::ffi::c_void;
+use std::ffi::{c_void, CStr};
 use std::mem::{size_of, MaybeUninit};
-use std::os::raw::c_uint;
+use std::os::raw::{c_char, c_uint};
 
 use crate::common::Estimation;
 
@@ -64,6 +64,7 @@ calls! {
     ) -> Status;
     "hll_0_2_hip_estimate" fn hll_hip_estimate(image: *const u8, len: usize, found: *mut Estimation) -> Status;
     "hll_0_2_coupon" fn hll_coupon(value: *const u8, len: usize) -> u32;
+    "hll_0_2_processor" fn hll_processor() -> *const c_char;
     "hll_0_2_counter_init" fn hll_counter_init(
         counter: *mut Counter,
         lg_k: c_uint,
@@ -96,6 +97,12 @@ pub(crate) fn checked(status: Status) -> Result<(), Status> {
         OK => Ok(()),
         _ => Err(status),
     }
+}
+
+/// For which processors the code was compiled that runs.
+pub(crate) fn processor() -> &'static str {
+    // SAFETY: the call returns a string that never changes, with a 0 after it.
+    unsafe { CStr::from_ptr(hll_processor()) }.to_str().unwrap_or("unknown")
 }
 
 /// The image that a call writes into a buffer. The call is made again with more room where it asks for it.

@@ -336,3 +336,14 @@ fn unions_of_images() {
     let empty = HllSketch::new(12, HllType::Hll8).unwrap().serialize();
     assert_eq!(union_of([&empty, &one.serialize(), &empty]).unwrap(), one);
 }
+
+/// `check` runs the tests with `HLL_CPU=x86-64-v2`, too.
+#[test]
+fn the_code_that_runs_is_chosen() {
+    let name = hll_sketches::processor();
+    let is_asked = std::env::var("HLL_CPU").as_deref() == Ok("x86-64-v2");
+    if cfg!(all(target_os = "linux", target_arch = "x86_64")) && is_asked {
+        assert_eq!(name, "x86-64-v2");
+    }
+    assert!(["x86-64-v2", "x86-64-v3", "aarch64", "riscv64"].contains(&name), "{name}");
+}

@@ -35,8 +35,34 @@ def old_processor():
     said = run("qemu-x86_64", "-cpu", "core2duo", shutil.which("sqlite3"), ":memory:", input=".load %s\nSELECT 6 * 7;\n" % EXTENSION)
     check("an older processor", re.search(r"CPU ISA level is lower than required\s+42", said.stdout), said.stdout)
     said = run("qemu-x86_64", "-cpu", "Nehalem", shutil.which("sqlite3"), ":memory:",
-               input=".load %s\nSELECT round(hll_estimate(hll_image_add_agg(7)));\n" % EXTENSION)
-    equal("a processor of x86-64-v2", said.stdout, "1.0\n")
+               input=".load %s\nSELECT round(hll_estimate(hll_image_add_agg(7))), hll_processor();\n" % EXTENSION)
+    equal("a processor of x86-64-v2", said.stdout, "1.0|x86-64-v2\n")
+
+
+# Images of each width, of coupons and of registers, with unions, folds, conversions and estimates of them.
+OF_BOTH = """.load %s
+SELECT hll_processor();
+CREATE TABLE images AS SELECT lg_k, width, hll_image_add_agg(x, lg_k, width) AS image
+    FROM (WITH RECURSIVE n(x) AS (SELECT 1 UNION ALL SELECT x + 1 FROM n WHERE x < 6000) SELECT x FROM n),
+        (SELECT column1 AS lg_k FROM (VALUES (4), (7), (10), (12))), (SELECT column1 AS width FROM (VALUES (4), (6), (8))),
+        (SELECT column1 AS most FROM (VALUES (5), (100), (6000))) WHERE x <= most GROUP BY lg_k, width, most;
+SELECT hex(image), hll_info(image), hll_estimate(image), hll_estimate_bounds(image), hex(hll_fold(image, 4)), hex(hll_convert(image, 6)) FROM images;
+SELECT hex(hll_image_union_agg(image, 12)), hex(hll_image_union_agg(image, 9, 4)) FROM images;
+SELECT hll_agree(a.image, b.image), hex(hll_merge(a.image, b.image, 12)) FROM images a, images b;
+""" % EXTENSION
+
+
+def both_codes():
+    """With the code for x86-64-v2, which HLL_CPU chooses, each answer is the same."""
+    if os.uname().machine != "x86_64":
+        return
+    plain = {name: value for name, value in os.environ.items() if name != "HLL_CPU"}
+    said, kept = (run("sqlite3", ":memory:", input=OF_BOTH, env={**plain, **more}).stdout.splitlines() for more in ({}, {"HLL_CPU": "x86-64-v2"}))
+    check("the code that runs", said[0] in ("x86-64-v2", "x86-64-v3"), said[0])
+    equal("the code for x86-64-v2", kept[0], "x86-64-v2")
+    equal("answers", len(said), 2 + 36 + 36 * 36)
+    for number, (one, other) in enumerate(zip(said[1:], kept[1:])):
+        equal("answer %d" % number, one, other)
 
 
 def runs_as_shown(name, text):

@@ -164,10 +164,13 @@ def version():
     header = (FOLDER.parent / "c" / "hll.h").read_text()
     wanted = ".".join(re.search(r"#define HLL_VERSION_%s (\d+)" % part, header)[1] for part in ("MAJOR", "MINOR", "PATCH"))
     equal("hll_version", ask("SELECT hll_version()"), wanted)
+    check("hll_processor", ask("SELECT hll_processor()") in ("x86-64-v2", "x86-64-v3", "aarch64", "riscv64"), ask("SELECT hll_processor()"))
+    refused("hll_processor of an image", "wrong number of arguments to function hll_processor()", "SELECT hll_processor(1)")
     refused("hll_version of an image", "wrong number of arguments to function hll_version()", "SELECT hll_version(1)")
     db.execute("CREATE TEMP TABLE versions (x)")
-    refused("an index", "non-deterministic functions prohibited in index expressions",
-            "CREATE INDEX temp.of_version ON versions (x || hll_version())")
+    for name in "version", "processor":
+        refused("an index", "non-deterministic functions prohibited in index expressions",
+                "CREATE INDEX temp.of_%s ON versions (x || hll_%s())" % (name, name))
 
 
 def trailing():

@@ -25,7 +25,7 @@ from tap import Tap, run_part  # noqa: E402
 PARTS = [shell.build, single.worked_rows, single.functions, single.estimates, single.arguments, single.reasons, single.version, values.types,
          values.many, values.encodings, groups.unions, groups.words, groups.added, groups.growth, groups.lg_k, groups.sizes, groups.large,
          groups.nulls, groups.options, groups.rows, groups.windows, attack.mutants, attack.interrupts, attack.schemas,
-         memory.limits, memory.refusals, shell.old_processor, shell.readme, shell.checked, shell.installed]
+         memory.limits, memory.refusals, shell.both_codes, shell.old_processor, shell.readme, shell.checked, shell.installed]
 
 
 def main():

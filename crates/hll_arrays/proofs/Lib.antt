@@ -1,6 +1,8 @@
 -- SPDX-License-Identifier: Apache-2.0
+pub mod Elements
 pub mod Entries
 pub mod EntryReading
+pub mod FewExceptions
 pub mod FourBitWholes
 pub mod Minimum
 pub mod Payloads

@@ -1,3 +1,4 @@
 -- SPDX-License-Identifier: Apache-2.0
+pub mod FewExceptions
 pub mod ReadBack
 pub mod Same

@@ -1,13 +1,13 @@
 // SPDX-License-Identifier: Apache-2.0
 //! 8-bit registers: one byte each.
-ghost use Rattle.std.specs.Prelude.{◌≡◌, ◌+◌, ◌^◌, ◌<◌, ◌≤◌, ◌==◌, ◌⊎◌, nat_le, take, drop, slice_index, slice_set, IfOk, IfErr};
+ghost use Rattle.std.specs.Prelude.{◌≡◌, ◌+◌, ◌^◌, ◌<◌, ◌≤◌, ◌==◌, ◌⊎◌, nat_le, length, take, drop, slice_index, slice_set, IfOk, IfErr};
 ghost use Rattle.std.specs.List.{list_all};
 ghost use Rattle.hll_base.specs.declared.error.Reason.TheVariants.{Memory};
 ghost use Rattle.hll_base.specs.Join.{join};
 ghost use Rattle.hll_kernels.specs.Packed as packed;
 ghost use Rattle.hll_kernels.specs.Packed.{zeros};
 ghost use Rattle.hll_registers.specs.Store.{size_in_registers};
-ghost use Rattle.hll_registers.specs.Payload.{state_at, IsHll8Payload, FirstHll8Fault, Hll8Fault, hll8_bytes};
+ghost use Rattle.hll_registers.specs.Payload.{state_at, HasPlainCounts, IsHll8Payload, FirstHll8Fault, Hll8Fault, hll8_bytes};
 ghost use Rattle.hll_registers.specs.State.{cleared_state, IsState};
 ghost use Rattle.hll_base.specs.declared.hll_type.HllType.TheVariants.{Hll8};
 ghost use Rattle.hll_registers.specs.Store.{zero_registers, update_with_coupon, merge_with, IsStored};
@@ -432,6 +432,29 @@ pub fn read_registers(
     ensures err { IfErr result (λ e. Hll8Fault lg_config_k cursor.entry e) }
     ensures order { IfErr result (λ e. FirstHll8Fault lg_config_k cursor.entry e) }
 {
+    let (registers, state) = read_register_bytes(cursor, lg_config_k, ooo)?;
+    if !are_registers(registers) {
+        return Err(Error::new(Reason::Register));
+    }
+    Ok((registers, state))
+}
+
+/// Returns the bytes of the registers in the part of an image of 8-bit registers after the header, and their state, as
+/// `read_registers` does, but does not check that each byte is at most 63. Reads 32 bytes; allocates nothing.
+///
+/// `lg_config_k` is 4 to 21. Fails with `Truncated` or `Count`.
+pub fn read_register_bytes(
+    cursor: SketchSlice<'_>,
+    lg_config_k: u8,
+    ooo: bool,
+) -> Result<(&[u8], EstimateState), Error>
+    requires { lg_config_k ≤ 21 }
+    ensures ok { IfOk result (λ r. HasPlainCounts lg_config_k cursor.entry × (32 + 2 ^ lg_config_k ≤ length cursor.entry)
+        × (r.0.now ≡ take (2 ^ lg_config_k) (drop 32 cursor.entry)) × (r.1 ≡ state_at ooo cursor.entry)) }
+    ensures legal { IfOk result (λ r. IsState r.1) }
+    ensures err { IfErr result (λ e. Hll8Fault lg_config_k cursor.entry e) }
+    ensures order { IfErr result (λ e. FirstHll8Fault lg_config_k cursor.entry e) }
+{
     let size = two_to(lg_config_k);
     let (preamble, rest) = Preamble::read(cursor, ooo)?;
     if preamble.num_at_cur_min as usize > size || preamble.exception_count != 0 {
@@ -440,9 +463,6 @@ pub fn read_registers(
     let Some(registers) = rest.remaining().get(..size) else {
         return Err(Error::new(Reason::Truncated));
     };
-    if !are_registers(registers) {
-        return Err(Error::new(Reason::Register));
-    }
     Ok((registers, preamble.state))
 }
 

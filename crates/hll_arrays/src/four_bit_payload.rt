@@ -103,16 +103,16 @@ pub(crate) fn read_slice<'a, A: Allocator + Clone>(
 
 /// The preamble, and the bytes of nibbles and exceptions after it.
 #[derive(Drop)]
-struct Frame<'a> {
+pub(crate) struct Frame<'a> {
     preamble: Preamble,
     compact: bool,
-    buckets: usize,
-    nibbles: &'a [u8],
-    entries: &'a [u8],
+    pub(crate) buckets: usize,
+    pub(crate) nibbles: &'a [u8],
+    pub(crate) entries: &'a [u8],
 }
 
 /// Reads the counts. Checks them, and the number of bytes.
-fn frame_of<'a>(cursor: SketchSlice<'a>, header: Hll4Header) -> Result<Frame<'a>, Error>
+pub(crate) fn frame_of<'a>(cursor: SketchSlice<'a>, header: Hll4Header) -> Result<Frame<'a>, Error>
     requires least { 4 ≤ header.lg_config_k }
     requires most { header.lg_config_k ≤ 21 }
     ensures ok { (m : ℕ) → let h = shape_of_hll4 header.lg_config_k m header.aux_format in
@@ -244,7 +244,7 @@ fn put_entry<A: Allocator + Clone>(
 }
 
 /// Returns the coupon with this code.
-fn coupon_of(raw: u32) -> Coupon
+pub(crate) fn coupon_of(raw: u32) -> Coupon
     ensures { result ≡ raw }
 {
     Coupon::pack(raw, (raw >> SLOT_BITS) as u8)

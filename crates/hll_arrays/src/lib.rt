@@ -7,6 +7,7 @@ pub mod array4;
 pub mod array6;
 pub mod array8;
 pub mod convert;
+pub mod few_exceptions;
 mod four_bit_payload;
 pub mod kernels;
 pub mod laws;

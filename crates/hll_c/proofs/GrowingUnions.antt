@@ -1,12 +1,15 @@
 -- SPDX-License-Identifier: Apache-2.0
 -- Unions of images in a state that grows.
-use Rattle.std.proofs.Common.{◌≡◌, ℕ, suc, ◌+◌, ◌<◌, ◌≤◌, true, List, [], ◌∷◌, ◌++◌, length, take, drop, get_or, inl, inr, refl, sym, ap, subst, ◌∙◌, arith}
+use Rattle.std.proofs.Common.{◌≡◌, ℕ, suc, ◌+◌, ◌<◌, ◌≤◌, true, false, List, [], ◌∷◌, ◌++◌, length, take, drop, get_or, inl, inr, refl, sym, ap, subst, ◌∙◌, arith}
 use Rattle.std.proofs.lemmas.Bool.{true≢false}
 use Rattle.std.proofs.lemmas.List.{drop_more, drop_all, take_at, take_all}
 use Rattle.hll_base.specs.declared.error.Reason.{Reason}
 use Rattle.hll_base.specs.declared.hll_type.HllType.{HllType}
-use Rattle.hll_sketch.specs.Merging.{merge, merge_all, empty_union}
-use Rattle.hll_sketch.specs.Value.{Sketch, IsLgK, IsLegal}
+use Rattle.std.specs.Prelude.{◌&&◌, if◌then◌else◌, nat_le}
+use Rattle.hll_registers.specs.State.{cleared_state}
+use Rattle.hll_registers.specs.declared.estimate_state.EstimateState.{EstimateState}
+use Rattle.hll_sketch.specs.Merging.{merge, merge_all, merge_content, max_registers, state_after_merge, empty_union}
+use Rattle.hll_sketch.specs.Value.{Sketch, Content, coupons, registers, is_empty, IsLgK, IsLegal}
 use Rattle.hll_state.specs.Counter.{sketch_in}
 use Rattle.hll_state.specs.Header.{new_header, IsWithin}
 use Rattle.hll_state.specs.Joined.{IsJoined}
@@ -43,10 +46,10 @@ module _ (bound : ℕ) (y : Sketch) (h : Header) (elements : List (List ℕ)) (i
   pub left_under : (result : Joined) → IsWithin g (length others) → IsJoined true 0 y h elements g others result → IsUnder bound g others
   left_under Done within joined =
       let left : IsLegalGadget bound (sketch_in g others) = subst (IsLegalGadget bound) (sym (done joined)) merged in
-      record { within = within; gadget = left.gadget; legal = left.legal }
+      record { lg_k = is.lg_k; within = within; gadget = left.gadget; legal = left.legal }
   left_under (NoRoom len) within joined =
       let left : IsLegalGadget bound (sketch_in g others) = subst (IsLegalGadget bound) (sym joined.kept) (record { gadget = is.gadget; legal = is.legal }) in
-      record { within = within; gadget = left.gadget; legal = left.legal }
+      record { lg_k = is.lg_k; within = within; gadget = left.gadget; legal = left.legal }
   left_under OtherLgK within joined = absurd (true≢false (sym (joined.refused is.gadget.registers)))
 
 -- the same, of the elements before
@@ -56,6 +59,26 @@ pub in_place : (bound : ℕ) (y : Sketch) (h : Header) (elements before : List (
 in_place bound y h elements before g after result is legal same size within joined =
     let from : IsJoined true 0 y h elements g after result = subst (λ xs. IsJoined true 0 y h xs g after result) same joined in
     (left_under bound y h elements is legal g after result (subst (IsWithin g) (sym size) within) from, joined_in bound y h elements is legal g after result from)
+
+-- a gadget that is not empty: the bound doesn't matter
+same_under : (a b : ℕ) (x y : Sketch) → is_empty x ≡ false → merge a x y ≡ merge b x y
+same_under a b x y some = of y.content
+  where
+    cleared : (bound k : ℕ) (s : EstimateState) → state_after_merge bound x k s ≡ cleared_state
+    cleared bound k s = ap (λ e. if e && nat_le k bound then s else cleared_state) some
+
+    of : (c : Content) → (if is_empty y then x else merge_content a x y c) ≡ (if is_empty y then x else merge_content b x y c)
+    of (coupons S size) = refl
+    of (registers R s) = ap (λ t. if is_empty y then x else max_registers x y.lg_k R t) (cleared a y.lg_k s ∙ sym (cleared b y.lg_k s))
+
+-- a sketch is merged into registers at their lg_k
+pub registers_in_place : (bound : ℕ) (y : Sketch) (h : Header) (elements : List (List ℕ)) (g : Header) (others : List (List ℕ)) → IsUnder bound h elements → IsLegal y → IsWithin g (length others)
+    → is_empty (sketch_in h elements) ≡ false → sketch_in g others ≡ merge h.lg_k (sketch_in h elements) y → IsUnder bound g others × (sketch_in g others ≡ merge bound (sketch_in h elements) y)
+registers_in_place bound y h elements g others is legal within some so =
+    let same : sketch_in g others ≡ merge bound (sketch_in h elements) y = so ∙ same_under h.lg_k bound (sketch_in h elements) y some in
+    let left : IsLegalGadget bound (sketch_in g others) =
+    subst (IsLegalGadget bound) (sym same) (merged_gadget bound (sketch_in h elements) y (record { gadget = is.gadget; legal = is.legal }) legal) in
+    (record { lg_k = is.lg_k; within = within; gadget = left.gadget; legal = left.legal }, same)
 
 -- elements that were written back
 pub written_back : (elements after : List (List ℕ)) (n : ℕ) → length after ≡ n → take n (after ++ drop (length after) elements) ≡ after
@@ -68,15 +91,22 @@ grown bound h elements new len more is fits made =
     let whole : elements ++ more ≡ new = sym (made ∙ ap (λ xs. xs ++ more) (take_all len elements fits)) in
     let longer = longer_body h elements more is.within in
     let left : IsLegalGadget bound (sketch_in h (elements ++ more)) = subst (IsLegalGadget bound) (sym longer.1) (record { gadget = is.gadget; legal = is.legal }) in (
-      subst (IsUnder bound h) whole (record { within = longer.0; gadget = left.gadget; legal = left.legal }),
+      subst (IsUnder bound h) whole (record { lg_k = is.lg_k; within = longer.0; gadget = left.gadget; legal = left.legal }),
       subst (λ xs. sketch_in h xs ≡ sketch_in h elements) whole longer.1,
     )
+
+-- any elements, under a header of the empty sketch
+pub emptied : (bound : ℕ) (h : Header) (elements : List (List ℕ)) → IsLgK bound → h ≡ new_header bound → IsUnder bound h elements
+emptied bound h elements lg_k at =
+    let left : IsLegalGadget bound (empty_union bound) = empty_gadget bound lg_k in
+    let is : IsUnder bound (new_header bound) elements = record { lg_k = lg_k; within = new_within bound 0 (length elements) lg_k (omega arith); gadget = left.gadget; legal = left.legal } in
+    subst (λ (g : Header). IsUnder bound g elements) (sym at) is
 
 -- no elements, under a header of the empty sketch
 pub empty_under : (bound : ℕ) (h : Header) (elements : List (List ℕ)) → IsLgK bound → h ≡ new_header bound → elements ≡ [] → IsUnder bound h elements
 empty_under bound h elements lg_k at none =
     let left : IsLegalGadget bound (empty_union bound) = empty_gadget bound lg_k in
-    let is : IsUnder bound (new_header bound) [] = record { within = new_within bound 0 0 lg_k (omega arith); gadget = left.gadget; legal = left.legal } in
+    let is : IsUnder bound (new_header bound) [] = record { lg_k = lg_k; within = new_within bound 0 0 lg_k (omega arith); gadget = left.gadget; legal = left.legal } in
     subst (IsUnder bound h) (sym none) (subst (λ (g : Header). IsUnder bound g []) (sym at) is)
 
 -- ---- images, merged in turn
@@ -145,7 +175,12 @@ is_union k bits width images fo fn are u w bound empty taken same untold = recor
   untold = untold;
 }
 
--- two images, by their numbers
+-- one image, or two, by their numbers
+pub one_image : (images : List (List ℕ)) (image : List ℕ) → length images ≡ 1 → image ≡ get_or images 0 [] → image ∷ [] ≡ images
+one_image [] image size first = absurd (omega (arith, size))
+one_image (x ∷ []) image size first = λ i. first i ∷ []
+one_image (x ∷ y ∷ more) image size first = absurd (omega (arith, size))
+
 pub two_images : (images : List (List ℕ)) (left right : List ℕ) → length images ≡ 2 → left ≡ get_or images 0 [] → right ≡ get_or images 1 [] → left ∷ right ∷ [] ≡ images
 two_images [] left right size first second = absurd (omega (arith, size))
 two_images (x ∷ []) left right size first second = absurd (omega (arith, size))

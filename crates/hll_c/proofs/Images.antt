@@ -8,7 +8,8 @@ use Rattle.hll_base.specs.declared.hll_type.HllType.{HllType}
 use Rattle.hll_coupons.specs.Hashed.{coupon_of_bytes}
 use Rattle.hll_coupons.specs.Pair.{pair, set_of}
 use Rattle.hll_sketch.specs.Checks.{first_failing, header_checks, checks_after, first_fault, size_fault}
-use Rattle.hll_sketch.specs.CouponImages.{IsImageOfUnion, AreBothRead, IsImageWith, IsFoldedImage}
+use Rattle.hll_sketch.specs.RegisterImages.{IsFilledImageWith}
+use Rattle.hll_sketch.specs.CouponImages.{IsImageOfUnion, IsImageOfUnionOfOne, AreBothRead, IsImageWith, IsFoldedImage}
 use Rattle.hll_sketch.specs.Adding.{add}
 use Rattle.hll_sketch.specs.Folding.{folded, IsFoldLgK}
 use Rattle.hll_sketch.specs.Image.{IsReadAs}
@@ -22,8 +23,8 @@ use Rattle.hll_sketch.proofs.FirstFaults.{faultless_is_image}
 use Rattle.hll_sketch.proofs.SetFields.{coupons_stay}
 use Rattle.hll_c.specs.Answers.{IsImageOf, WithFields, RefusesArguments, argument, memory, RefusesImage, RefusesInfo, RefusesTested, image_fault, image_memory, RefusesWith, argument_with_image, image_refused, RefusesImages, argument_with_images, images_fault, images_memory}
 use Rattle.hll_c.specs.Batches.{AreEnds, AreReadAs, IsFirstFaulty, MayAskAt, strings}
-use Rattle.hll_c.specs.Calls.{bits_of, AreOfCoupon, HasCoupon, HasValues, AreNewArguments, IsEmptyAt, IsMadeOf, IsFoldOf, RefusesFold, above, with, AreUnionArguments, IsUnionOf, AreBatchArguments}
-use Rattle.hll_c.specs.Steps.{IsRefusedAt}
+use Rattle.hll_c.specs.Calls.{bits_of, AreOfCoupon, HasCoupon, HasValues, AreNewArguments, IsEmptyAt, IsMadeOf, IsFoldOf, RefusesFold, above, with, AreUnionArguments, AreBatchArguments}
+use Rattle.hll_c.specs.Steps.{IsRefusedAt, IsUnionInBytes, AreAllRead}
 
 -- ---- reading
 
@@ -130,14 +131,31 @@ refuses_in_batch k bits images ends fo fn _ are (images_memory n in_range asked 
 
 -- ---- images made from bytes to bytes
 
-module _ (k bits : ℕ) (width : HllType) (is_width : bits_of width ≡ bits) (left right : List ℕ) where
-  pub union_in_bytes : (bytes : List ℕ) (failed : ℕ) → IsImageOfUnion k width left right bytes → IsImageOf (WithFields (IsUnionOf k bits (left ∷ right ∷ []) failed failed)) bytes
-  union_in_bytes bytes failed of = (
+module _ (k : ℕ) (width : HllType) where
+  pub union_of_one_in_bytes : (image bytes : List ℕ) → IsImageOfUnionOfOne k width image bytes → IsUnionInBytes k (bits_of width) (image ∷ []) bytes
+  union_of_one_in_bytes image bytes of failed = (
     _,
     (
       _,
       record {
-        arguments = record { lg_max_k_is = of.bound_is; width_is = record { width = width; is = is_width } };
+        arguments = record { lg_max_k_is = of.bound_is; width_is = record { width = width; is = refl } };
+        sketches = of.sketch ∷ [];
+        read = (of.read, tt);
+        is = refl;
+        untold = refl;
+      },
+      coupons_stay _ of.in_table,
+    ),
+    of.written,
+  )
+
+  pub union_in_bytes : (left right bytes : List ℕ) → IsImageOfUnion k width left right bytes → IsUnionInBytes k (bits_of width) (left ∷ right ∷ []) bytes
+  union_in_bytes left right bytes of failed = (
+    _,
+    (
+      _,
+      record {
+        arguments = record { lg_max_k_is = of.bound_is; width_is = record { width = width; is = refl } };
         sketches = of.left_sketch ∷ of.right_sketch ∷ [];
         read = (of.left_read, (of.right_read, tt));
         is = refl;
@@ -148,10 +166,8 @@ module _ (k bits : ℕ) (width : HllType) (is_width : bits_of width ≡ bits) (l
     of.written,
   )
 
-  pub refuses_union_in_bytes : (failed : ℕ) (e : Reason) → AreBothRead k left right → e ≡ Memory → RefusesImages (AreUnionArguments k bits) (left ∷ right ∷ []) failed failed e
-  refuses_union_in_bytes failed e both is =
-      refuses_more_memory (AreUnionArguments k bits) (left ∷ right ∷ []) failed failed e 2 is (record { lg_max_k_is = both.bound_is; width_is = record { width = width; is = is_width } })
-      (asked_after (left ∷ right ∷ []) (both.left_sketch ∷ both.right_sketch ∷ []) (both.left_read, (both.right_read, tt))) refl
+pub both_are_read : (k : ℕ) (left right : List ℕ) → AreBothRead k left right → AreAllRead (left ∷ right ∷ [])
+both_are_read k left right both = (both.left_sketch ∷ both.right_sketch ∷ [], (both.left_read, (both.right_read, tt)))
 
 pub values_in_bytes : (values ends image bytes : List ℕ) → AreEnds (length values) ends → IsImageWith (map coupon_of_bytes (strings values ends)) image bytes
     → IsImageOf (WithFields (IsMadeOf image (HasValues values ends))) bytes
@@ -166,6 +182,24 @@ coupon_in_bytes slot value c image bytes are is at = (
     _,
     record { sketch = at.sketch; read = at.read; is_made = record { are = are; is = add_each at.sketch c [] ∙ ap (λ n. add at.sketch (set_of (n ∷ []))) is } },
     coupons_stay _ at.in_table,
+  ),
+  at.written,
+)
+
+-- the same, of registers that hold all coupons
+pub values_in_registers : (values ends image bytes : List ℕ) → AreEnds (length values) ends → IsFilledImageWith (map coupon_of_bytes (strings values ends)) image bytes
+    → IsImageOf (WithFields (IsMadeOf image (HasValues values ends))) bytes
+values_in_registers values ends image bytes are at =
+    (at.filled, (_, record { sketch = at.sketch; read = at.read; is_made = record { are = are; is = refl } }, at.fills), at.written)
+
+pub coupon_in_registers : (slot value c : ℕ) (image bytes : List ℕ) → AreOfCoupon slot value → c ≡ pair slot value → IsFilledImageWith (c ∷ []) image bytes
+    → IsImageOf (WithFields (IsMadeOf image (HasCoupon slot value))) bytes
+coupon_in_registers slot value c image bytes are is at = (
+  at.filled,
+  (
+    _,
+    record { sketch = at.sketch; read = at.read; is_made = record { are = are; is = add_each at.sketch c [] ∙ ap (λ n. add at.sketch (set_of (n ∷ []))) is } },
+    at.fills,
   ),
   at.written,
 )

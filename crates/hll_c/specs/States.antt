@@ -64,7 +64,8 @@ pub data AddsToState (InRange : Type 0) (cs : List ℕ) (old new : List (List �
 -- ---- reading
 
 -- why reading a state fails: an argument is out of range or the elements are not a state; the state means a sketch that is not
--- legal, as a register is above 63 or a coupon has the value 0; or an allocation fails
+-- legal, as a register is above 63 or a coupon has the value 0; or an allocation fails. Not every state that means such a sketch is
+-- rejected.
 pub data RefusesState (InRange : Type 0) (elements : List (List ℕ)) : Reason → Type 0 where
   state_argument : (InRange × IsState elements → ⊥) → RefusesState InRange elements Argument
   state_register : InRange → OfState elements (λ x. IsLegal x → ⊥) → RefusesState InRange elements Register

@@ -12,6 +12,7 @@ ghost use Rattle.hll_sketch.specs.EstimatorFields.{SetsFields};
 ghost use Rattle.hll_sketch.specs.Image.{IsReadAs, IsSizeOfImage, width_bits, width_of_bits};
 ghost use Rattle.hll_sketch.specs.Laws.{add_in_turn};
 ghost use Rattle.hll_sketch.specs.Layout.{sketch_of};
+ghost use Rattle.hll_sketch.specs.RegisterImages.{IsFilledImageWith};
 ghost use Rattle.hll_sketch.specs.Value.{Sketch, IsLgK};
 ghost use Rattle.hll_c.specs.Answers.{IsImageOf, WithFields, RefusesArguments, RefusesImage, RefusesTested, RefusesWith, RefusesImages};
 ghost use Rattle.hll_c.specs.Batches.{AreEnds, strings};
@@ -29,11 +30,16 @@ use hll_coupons::serialization::{TGT_HLL4, TGT_HLL6, extract_tgt_hll_type};
 use hll_sketch::borrowed_registers::BorrowedRegisters;
 use hll_sketch::coupon_images::{coupon_image_with, says_registers};
 use hll_sketch::image_size::size_of_image;
-use hll_sketch::{HllSketch, coupon_image_at, folded_coupon_image, register_image_at};
+use hll_sketch::{
+    HllSketch, coupon_image_at, folded_coupon_image, held_register_image, register_image_at,
+};
 use std::alloc::Global;
 
 /// The number of byte strings whose coupons are computed before they are added to a sketch.
 const BLOCK: usize = 128;
+
+/// The number of byte strings whose coupons are computed to see whether registers hold them. They are computed again if not.
+const FEW: usize = 16;
 
 /// The index of the byte of an image that has the stage and the width.
 const MODE_BYTE: usize = 7;
@@ -107,7 +113,10 @@ pub(crate) fn with_coupon(
         return Err(Error::new(Reason::Argument));
     }
     let coupon = Coupon::pack(slot, value as u8);
-    match coupon_image_with(alloc, image, &mut [coupon.raw()])? {
+    if let Some(written) = coupon_image_with(alloc, image, &mut [coupon.raw()])? {
+        return Ok(written);
+    }
+    match held_register_image(alloc, image, &[coupon.raw()])? {
         Some(written) => Ok(written),
         None => image_with_fields(sketch_with_coupon(alloc, image, coupon)?),
     }
@@ -145,10 +154,34 @@ pub(crate) fn with_values(
     if !are_ends(ends, values.len()) {
         return Err(Error::new(Reason::Argument));
     }
-    match coupon_image_with_values(alloc, image, values, ends)? {
+    if let Some(written) = coupon_image_with_values(alloc, image, values, ends)? {
+        return Ok(written);
+    }
+    match held_image_with_values(alloc, image, values, ends)? {
         Some(written) => Ok(written),
         None => image_with_fields(sketch_with_values(alloc, image, values, ends)?),
     }
+}
+
+/// Returns an image of 8-bit or 6-bit registers with the coupons of at most `FEW` byte strings, if its registers hold them all.
+/// Returns `None` for more strings, or if `held_register_image` returns `None`.
+fn held_image_with_values(
+    alloc: Global,
+    image: &[u8],
+    values: &[u8],
+    ends: &[usize],
+) -> Result<Option<Vec<u8>>, Error>
+    requires { AreEnds (length values.now) ends.now }
+    ensures some { IfOk result (λ found. IfSome found (λ written. IsFilledImageWith (map coupon_of_bytes (strings values.now ends.now)) image.now written.items)) }
+    ensures read { OnErr result ((x : Sketch) × IsReadAs image.now x) }
+    ensures err { IfErr result (λ e. e ≡ reasons.Memory) }
+{
+    if FEW < ends.len() {
+        return Ok(None);
+    }
+    let mut raw_coupons = [0; FEW];
+    put_each(values, 0, ends, &mut raw_coupons);
+    held_register_image(alloc, image, &raw_coupons[..ends.len()])
 }
 
 /// Returns an image of coupons with the coupons of 1 to `BLOCK` byte strings, without making a table. Returns `None` for

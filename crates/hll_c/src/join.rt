@@ -13,7 +13,7 @@ use crate::answer::{BUFFER, OK};
 use crate::state::{make, too_small};
 use hll_base::bounds::{MAX_LG_K, MIN_LG_K};
 use hll_base::error::Reason;
-use hll_sketch::borrowed_image::BorrowedImage;
+use hll_sketch::borrowed_image::{BorrowedImage, compact_image};
 use hll_sketch::coupon_room::CouponRoom;
 use hll_state::header::{HEADER_LEN, Header};
 use hll_state::join::{Joined, bit_of};
@@ -36,6 +36,12 @@ pub(crate) fn join_image(
     let Some(header) = open_under(state, lg_max_k) else {
         return Reason::Argument.number();
     };
+    if let Some(coupons) = compact_image(image) {
+        let widths = bit_of(coupons.hll_type);
+        let image = BorrowedImage::Coupons(coupons);
+        return join(header, lg_max_k, state, size, widths, &image);
+    }
+    // (after the return: room is cleared)
     let mut room = CouponRoom::new();
     match BorrowedImage::read(alloc, image, &mut room) {
         Ok(image) => {

@@ -84,8 +84,8 @@ pub extern "C" fn hll_estimate(alloc: Global, image: &[u8], estimate: &mut HllEs
 /// Checks whether the bytes begin with an image.
 ///
 /// Returns the reason of the first check that they fail (docs/FORMAT.md, "Order of checks"), or `Memory`. Allocates a table for
-/// coupons, except for at most 128 or ascending ones in a compact image and for 1 to 128 in an updatable one; and a map for the
-/// exceptions of 4-bit registers, if there are any.
+/// coupons, except for at most 128 or ascending ones in a compact image and for 1 to 128 in an updatable one. May allocate a map
+/// for the exceptions of 4-bit registers, if there are any.
 #[unsafe(no_mangle)]
 pub extern "C" fn hll_image_check(alloc: Global, image: &[u8]) -> u8
     ensures { Tests ((x : Sketch) × IsReadAs image.now x) (RefusesTested image.now) result }

@@ -1,31 +1,35 @@
 // SPDX-License-Identifier: Apache-2.0
-//! Unions of several images. Images of few coupons are merged from bytes to bytes. All others are merged into a state of a
+//! Unions of several images. One or two images of few coupons are merged from bytes to bytes. All others are merged into a state of a
 //! counter, which grows as they need it.
-ghost use Rattle.std.specs.Prelude.{◌≡◌, ◌≢◌, ℕ, ◌+◌, ◌-◌, ◌≤◌, true, List, [], ◌∷◌, length, map, IfSome, IfNone, IfOk, IfErr, OnOk, OnErr};
+ghost use Rattle.std.specs.Prelude.{◌≡◌, ◌≢◌, ℕ, ◌+◌, ◌-◌, ◌^◌, ◌≤◌, nat_le, true, false, List, [], ◌∷◌, length, map, IfSome, IfNone, IfOk, IfErr, OnOk, OnErr};
+ghost use Rattle.std.specs.List.{list_all};
 ghost use Rattle.hll_base.specs.declared.error.Reason.TheVariants.{Memory};
+ghost use Rattle.hll_registers.specs.declared.estimate_state.EstimateState.{EstimateState};
 ghost use Rattle.hll_sketch.specs.BorrowedImage.{sketch_of_borrowed};
-ghost use Rattle.hll_sketch.specs.CouponImages.{IsImageOfUnion, AreBothRead};
 ghost use Rattle.hll_sketch.specs.EstimatorFields.{FillsFields};
 ghost use Rattle.hll_sketch.specs.Merging.{merge, empty_union};
 ghost use Rattle.hll_sketch.specs.Refusal.{IsRefusal};
-ghost use Rattle.hll_sketch.specs.Value.{IsLgK, IsLegal};
+ghost use Rattle.hll_sketch.specs.Value.{Sketch, IsLgK, IsLegal, registers};
 ghost use Rattle.hll_state.specs.Merged.{HasRoomToMerge};
 ghost use Rattle.hll_state.specs.declared.join.Joined.TheVariants as joins;
 ghost use Rattle.hll_c.specs.Answers.{IsImageOf, WithFields, RefusesImages};
 ghost use Rattle.hll_c.specs.Batches.{AreEnds, strings};
-ghost use Rattle.hll_c.specs.Calls.{AreUnionArguments, IsUnionOf, AreBatchArguments, IsUnionOfBatch};
-ghost use Rattle.hll_c.specs.Steps.{union_so_far, IsMergedInPlace, MergesInto, MergesInAll, IsRefusedAt, FailsToMergeIn};
+ghost use Rattle.hll_c.specs.Calls.{bits_of, AreUnionArguments, IsUnionOf, AreBatchArguments, IsUnionOfBatch};
+ghost use Rattle.hll_c.specs.Steps.{IsUnionInBytes, AreAllRead, union_so_far, IsMergedInPlace, MergesInto, MergesInAll, IsRefusedAt, FailsToMergeIn};
 
 use crate::arguments::{lg_k_of_number, width_of};
 use crate::batch::are_ends;
 use crate::image::refused_at;
 use crate::several_images::{Batch, Images, Parts};
 use crate::state::image_of_held;
+use hll_base::bounds::MAX_VALUE;
 use hll_base::error::{Error, Reason};
 use hll_base::hll_type::HllType;
-use hll_sketch::borrowed_image::BorrowedImage;
+use hll_sketch::borrowed_image::{BorrowedImage, compact_image};
 use hll_sketch::coupon_room::CouponRoom;
-use hll_sketch::union_of_coupon_images;
+use hll_sketch::few_exceptions::few_exceptions;
+use hll_sketch::register_bytes::register_bytes;
+use hll_sketch::{union_of_coupon_images, union_of_one_coupon_image};
 use hll_state::header::{HEADER_LEN, Header};
 use hll_state::join::Joined;
 use std::alloc::Global;
@@ -100,9 +104,77 @@ impl GrowingUnion {
         ensures ok { OnOk result (MergesInto self.old self.new image.now) }
         ensures err { IfErr result (IsRefusal image.now) }
     {
+        if self.max_with_image(image)? {
+            return Ok(());
+        }
+        self.update_with_checked(alloc, image)
+    }
+
+    /// Merges an image, which is checked first.
+    ///
+    /// Fails as `update_with_image` does.
+    fn update_with_checked(&mut self, alloc: Global, image: &[u8]) -> Result<(), Error>
+        ensures ok { OnOk result (MergesInto self.old self.new image.now) }
+        ensures err { IfErr result (IsRefusal image.now) }
+    {
+        if let Some(coupons) = compact_image(image) {
+            return self.update(&BorrowedImage::Coupons(coupons));
+        }
+        // (after the return: room is cleared)
         let mut room = CouponRoom::new();
         let image = BorrowedImage::read(alloc, image, &mut room)?;
         self.update(&image)
+    }
+
+    /// Merges an image of 8-bit registers, or of 4-bit registers with few exceptions, if the union has registers at its `lg_k`.
+    /// One pass checks 8-bit registers and merges them. Returns whether it did. If it did not, the union is unchanged, and
+    /// nothing is said of the image.
+    ///
+    /// Fails with `Register`, if this is the first check that the image fails. The union is empty then.
+    fn max_with_image(&mut self, image: &[u8]) -> Result<bool, Error>
+        ensures ok { IfOk result (λ did. did ≡ true → MergesInto self.old self.new image.now) }
+        ensures unchanged { IfOk result (λ did. did ≡ false → self.new ≡ self.old) }
+        ensures err { IfErr result (IsRefusal image.now) }
+    {
+        let Some(registers) = register_bytes(image) else {
+            return Ok(self.max_with_few_exceptions(image));
+        };
+        match self.max_with_bytes(registers.lg_k, registers.bytes) {
+            None => Ok(false),
+            Some(greatest) if greatest > MAX_VALUE => Err(Error::new(Reason::Register)),
+            Some(_) => Ok(true),
+        }
+    }
+
+    /// Takes the maximum with 2^`lg_k` bytes, if the union has registers at this `lg_k`. Returns the greatest byte, or `None`
+    /// if nothing was done. A byte above 63 leaves an empty union.
+    fn max_with_bytes(&mut self, lg_k: u8, bytes: &[u8]) -> Option<u8>
+        requires lg_k { IsLgK lg_k }
+        requires size { length bytes.now ≡ 2 ^ lg_k }
+        ensures merged { IfSome result (λ greatest. greatest ≤ 63 → (y : Sketch) (state : EstimateState) → y.lg_k ≡ lg_k → y.content ≡ registers bytes.now state → IsLegal y
+            → union_so_far self.new ≡ merge self.old.lg_max_k (union_so_far self.old) y) }
+        ensures bound { self.new.lg_max_k ≡ self.old.lg_max_k }
+        ensures greatest { IfSome result (λ greatest. (bound : ℕ) → list_all (λ b. nat_le b bound) bytes.now ≡ nat_le greatest bound) }
+        ensures none { IfNone result (self.new ≡ self.old) }
+    {
+        let greatest = self.header.max_with_bytes(&mut self.elements, lg_k, bytes)?;
+        if greatest > MAX_VALUE {
+            self.header = Header::new(self.lg_max_k);
+        }
+        Some(greatest)
+    }
+
+    /// Merges an image of 4-bit registers with few exceptions, if the union has registers at its `lg_k`. Returns whether it did.
+    /// If it did not, the union is unchanged.
+    fn max_with_few_exceptions(&mut self, image: &[u8]) -> bool
+        ensures merged { result ≡ true → MergesInto self.old self.new image.now }
+        ensures unchanged { result ≡ false → self.new ≡ self.old }
+    {
+        let Some(few) = few_exceptions(image) else {
+            return false;
+        };
+        self.header
+            .max_with_few_exceptions(&mut self.elements, &few)
     }
 
     /// Merges a sketch. Fails with `Memory`.
@@ -206,8 +278,7 @@ pub(crate) fn union_of_batch(
     union_of(alloc, lg_max_k, width, &batch, failed)
 }
 
-/// Returns the image of the union of images at a width, with its estimator fields set if its estimate state is cleared. Two
-/// images of few coupons are merged from bytes to bytes.
+/// Returns the image of the union of images at a width, with its estimator fields set if its estimate state is cleared.
 fn union_of<I: Images>(
     alloc: Global,
     lg_max_k: u32,
@@ -221,21 +292,37 @@ fn union_of<I: Images>(
 {
     let lg_max_k = lg_k_of_number(lg_max_k)?;
     let hll_type = width_of(width)?;
-    if images.count() == 2
-        && are_small(lg_max_k, images.image(0), images.image(1))
-        && let Some(image) = union_of_coupon_images(
-            alloc,
-            lg_max_k,
-            hll_type,
-            images.image(0),
-            images.image(1),
-        )?
-    {
+    if let Some(image) = union_of_few(alloc, lg_max_k, hll_type, images)? {
         return Ok(image);
     }
     let mut union = GrowingUnion::new(alloc, lg_max_k);
     merge_in_all(&mut union, alloc, images, failed)?;
     union.into_image(alloc, hll_type)
+}
+
+/// Returns the image of the union of one or two images of few coupons, which is made from bytes to bytes. Returns `None` for
+/// others.
+///
+/// Fails with `Memory`.
+fn union_of_few<I: Images>(
+    alloc: Global,
+    lg_max_k: u8,
+    hll_type: HllType,
+    images: &I,
+) -> Result<Option<Vec<u8>>, Error>
+    requires are { I.Images.are images.now }
+    requires lg_k { IsLgK lg_max_k }
+    ensures some { IfOk result (λ found. IfSome found (λ image. IsUnionInBytes lg_max_k (bits_of hll_type) (I.Images.images images.now) image.items)) }
+    ensures err { IfErr result (λ e. (e ≡ Memory) × AreAllRead (I.Images.images images.now)) }
+{
+    let count = images.count();
+    if count == 1 {
+        return union_of_one_coupon_image(alloc, lg_max_k, hll_type, images.image(0));
+    }
+    if count == 2 && are_small(lg_max_k, images.image(0), images.image(1)) {
+        return union_of_coupon_images(alloc, lg_max_k, hll_type, images.image(0), images.image(1));
+    }
+    Ok(None)
 }
 
 /// Returns whether the coupons of two images of these sizes are few enough for the largest table, if none is in both.

@@ -3,7 +3,7 @@
 use Rattle.std.proofs.Common.{◌≡◌, ℕ, zero, suc, ◌+◌, ◌-◌, ◌*◌, ◌/◌, ◌<◌, ◌≤◌, Bool, true, false, ◌||◌, cond, nat_eq, List, [], ◌∷◌, ◌++◌, length, take, drop, get_or, refl, sym, ap, subst, ◌∙◌, ◌↔◌, inl, inr, arith, append_assoc}
 use Rattle.std.specs.Cmp.{nat_cmp_total}
 use Rattle.std.specs.Int.{w32, from_le_bytes, to_le_bytes}
-use Rattle.std.specs.FinSet.{union, same_set, nat_cmp-IsAntisymmetric, contains-union, contains-from_list_nat}
+use Rattle.std.specs.FinSet.{contains, union, same_set, nat_cmp-IsAntisymmetric, contains-union, contains-from_list_nat}
 use Rattle.std.specs.List.{list_any}
 use Rattle.std.specs.List.Sorted.{IsStrictlyIncreasing}
 use Rattle.std.proofs.lemmas.Bool.{eqb-true, eq-eqb, ne_eqb, true≢false}
@@ -107,6 +107,13 @@ moved true b l r p s el er some = refl
 moved false true l r p s el er some = sym (some refl)
 moved false false l r p s el er some = λ i. el i || er i
 
+nothing : (b : Bool) → (b || false) ≡ b
+nothing true = refl
+nothing false = refl
+
+union_has : (xs ys : List ℕ) (q : ℕ) → (has xs q || has ys q) ≡ contains (union (set_of xs) (set_of ys)) q
+union_has xs ys q = (λ i. sym (contains-from_list_nat xs q) i || sym (contains-from_list_nat ys q) i) ∙ sym (contains-union nat_cmp_total (set_of xs) (set_of ys) q)
+
 -- ---- the merge
 
 -- the numbers taken and those left ascend, and have the members of both lists
@@ -154,24 +161,33 @@ module _ (xs ys taken left right : List ℕ) (rest : MergesRest xs ys taken left
           last true = refl
           last false = refl
 
-  -- this lemma for the values after a step
-  merges_next : (w : ℕ) (taken' left' right' : List ℕ) → IsLeastFirst w left right → taken' ≡ taken ++ w ∷ [] → left' ≡ without_first w left → right' ≡ without_first w right
+  -- the same numbers, for the lists after the step
+  pub merges_next : (w : ℕ) (taken' left' right' : List ℕ) → IsLeastFirst w left right → taken' ≡ taken ++ w ∷ [] → left' ≡ without_first w left → right' ≡ without_first w right
       → MergesRest xs ys taken' left' right'
   merges_next w taken' left' right' least t l r =
       subst (λ z. MergesRest xs ys z left' right') (sym t)
       (subst (λ z. MergesRest xs ys (taken ++ w ∷ []) z right') (sym l) (subst (λ z. MergesRest xs ys (taken ++ w ∷ []) (without_first w left) z) (sym r) (merges_more w least)))
 
-  merges_all : left ≡ [] → right ≡ [] → IsAscending taken (union (set_of xs) (set_of ys))
-  merges_all no_left no_right = record {
-    increasing = subst IsStrictlyIncreasing (ap (λ z. taken ++ z) no_left ∙ append-nil taken) rest.left_ascends;
+  -- one of the lists is at its end
+  pub merges_left : right ≡ [] → IsAscending (taken ++ left) (union (set_of xs) (set_of ys))
+  merges_left none = record {
+    increasing = rest.left_ascends;
     members = same_set nat_cmp_total nat_cmp-IsAntisymmetric _ _ (λ q.
-        contains-from_list_nat taken q ∙ sym (nothing (has taken q)) ∙ (λ i. has taken q || (has (sym no_left i) q || has (sym no_right i) q)) ∙ rest.members q
-        ∙ (λ i. sym (contains-from_list_nat xs q) i || sym (contains-from_list_nat ys q) i) ∙ sym (contains-union nat_cmp_total (set_of xs) (set_of ys) q));
+        contains-from_list_nat (taken ++ left) q ∙ list_any-append (λ y. nat_eq y q) taken left
+        ∙ ap (λ b. has taken q || b) (sym (nothing (has left q))) ∙ (λ i. has taken q || (has left q || has (sym none i) q)) ∙ rest.members q ∙ union_has xs ys q);
   }
-    where
-      nothing : (b : Bool) → (b || false) ≡ b
-      nothing true = refl
-      nothing false = refl
+
+  pub merges_right : left ≡ [] → IsAscending (taken ++ right) (union (set_of xs) (set_of ys))
+  merges_right none = record {
+    increasing = rest.right_ascends;
+    members = same_set nat_cmp_total nat_cmp-IsAntisymmetric _ _ (λ q.
+        contains-from_list_nat (taken ++ right) q ∙ list_any-append (λ y. nat_eq y q) taken right
+        ∙ (λ i. has taken q || (has (sym none i) q || has right q)) ∙ rest.members q ∙ union_has xs ys q);
+  }
+
+  merges_all : left ≡ [] → right ≡ [] → IsAscending taken (union (set_of xs) (set_of ys))
+  merges_all no_left no_right =
+      subst (λ z. IsAscending z (union (set_of xs) (set_of ys))) (ap (λ z. taken ++ z) no_left ∙ append-nil taken) (merges_left no_right)
 
 pub writes_none : (xs ys bytes : List ℕ) → bytes ≡ [] → IsStrictlyIncreasing xs → IsStrictlyIncreasing ys → WritesRest xs ys bytes xs ys
 writes_none xs ys bytes none up vp = record { taken = []; is = none; rest = merges_none xs ys [] refl up vp }

@@ -299,7 +299,10 @@ impl<A: Allocator + Clone> Container<A> {
     {
         let alloc = self.allocator();
         let coupons = self.ascending(alloc.clone()?)?;
-        image_of(alloc.clone()?, header, &coupons)
+        let needed = header.len() + coupons.len() * COUPON_SIZE_BYTES;
+        let mut bytes = SketchBytes::with_capacity(alloc.clone()?, needed)?;
+        bytes.write(header)?;
+        Ok(with_coupons(bytes, &coupons)?.into_bytes())
     }
 }
 
@@ -336,19 +339,6 @@ pub(crate) fn buckets_of(lg_size: usize) -> usize
     ensures { result ≡ 2 ^ lg_size }
 {
     1 << lg_size
-}
-
-/// Returns a header followed by coupons, four bytes each, allocated in one request.
-///
-/// Fails with `Memory` if the allocation fails.
-fn image_of<A: Allocator>(alloc: A, header: &[u8], coupons: &[Coupon]) -> Result<Vec<u8, A>, Error>
-    ensures ok { IfOk result (λ image. image.items ≡ header.now ++ coupon_bytes coupons.now) }
-    ensures err { IfErr result (λ e. e ≡ Memory) }
-{
-    let needed = header.len() + coupons.len() * COUPON_SIZE_BYTES;
-    let mut bytes = SketchBytes::with_capacity(alloc, needed)?;
-    bytes.write(header)?;
-    Ok(with_coupons(bytes, coupons)?.into_bytes())
 }
 
 /// Returns `bytes` with coupons appended to it, four bytes each.

@@ -1,18 +1,20 @@
 -- SPDX-License-Identifier: Apache-2.0
 -- Lemmas on sums of weights in two parts.
-use Rattle.std.proofs.Common.{◌≡◌, ℕ, ◌+◌, ◌-◌, ◌*◌, ◌%◌, ◌^◌, ◌<◌, ◌≤◌, ◌==◌, List, [], ◌∷◌, ◌++◌, length, get_or, All, true, false, inl, inr, refl, sym, ap, ◌∙◌, arith}
+use Rattle.std.proofs.Common.{◌≡◌, ℕ, ◌+◌, ◌-◌, ◌*◌, ◌%◌, ◌^◌, ◌<◌, ◌≤◌, ◌==◌, List, [], ◌∷◌, ◌++◌, length, length-append, get_or, All, true, false, inl, inr, refl, sym, ap, ◌∙◌, arith}
 use Rattle.std.specs.Prelude.{if◌then◌else◌, nat_lt}
+use Rattle.std.specs.Simd.Lanes.{sum_l}
 use Rattle.std.proofs.Math.Nat.{mul-zero, mul-add}
 use Rattle.std.proofs.Math.Pow.{pow_mono}
 use Rattle.std.proofs.lemmas.Bool.{cases_lt, eqb-true, lt-ltb, le-ltb}
 use Rattle.std.proofs.lemmas.List.Elements.{All-tail}
 use Rattle.std.proofs.lemmas.Nat.{pow-add}
 use Rattle.std.proofs.lemmas.List.Sums.{sum_by-cons, sum_by-append, sum_by-le}
+use Rattle.hll_kernels.specs.declared.kernels.RunningSums.{RunningSums}
 use Rattle.hll_kernels.specs.declared.kernels.WeightSums.{WeightSums}
 use Rattle.hll_kernels.specs.Lanes.{window_weight, window_units}
 use Rattle.hll_kernels.specs.Packed.{units, low_units, high_units}
-use Rattle.hll_kernels.specs.WeightSums.{AreSumsOf}
-use Rattle.hll_kernels.proofs.Weights.{below}
+use Rattle.hll_kernels.specs.WeightSums.{AreSumsOf, AreRunningSums}
+use Rattle.hll_kernels.proofs.Weights.{below, window_units-le}
 use mathlib.Core.List.{map}
 
 abbrev pub low_weight : ℕ → ℕ
@@ -153,3 +155,51 @@ pub AreSumsOf-small : (s : WeightSums) (R : List ℕ) (k : ℕ) → AreSumsOf s 
 AreSumsOf-small s R k are size few =
     let less : 2 ^ k ≤ 2 ^ 21 = pow_mono few in
     (omega (arith, are.low, low_units-le R, size, less), omega (arith, are.high, high_units-le R, size, less))
+
+-- ---- sums of which a part is in lanes
+
+module _ (s : RunningSums) (R B : List ℕ) (are : AreRunningSums s R) where
+  -- a block of small values in lanes
+  module _ (small : All (λ v. v < 16) B) (U L : List ℕ) (units : 256 * sum_l U + sum_l L ≡ window_units B) where
+    pub upper_fits : length R + length B ≤ 2 ^ 21 → sum_l s.upper + sum_l U < 2 ^ 32
+    upper_fits few = omega (arith, are.low, low_units-le R, units, window_units-le B)
+
+    pub lower_fits : length R + length B ≤ 2 ^ 21 → sum_l L ≤ 255 * length B → sum_l s.lower + sum_l L < 2 ^ 32
+    lower_fits few bytes = omega (arith, are.lower_bytes, bytes)
+
+    low_units-small : low_units B ≡ 65536 * window_units B
+    low_units-small = ap low_units (map-zero B) ∙ low_units-shifted 0 B (omega arith) small
+
+    high_units-small : high_units B ≡ 0
+    high_units-small = ap high_units (map-zero B) ∙ high_units-shifted 0 B (omega arith) small
+
+    pub AreRunningSums-windows : (t : RunningSums) → sum_l L ≤ 255 * length B → sum_l t.upper ≡ sum_l s.upper + sum_l U → sum_l t.lower ≡ sum_l s.lower + sum_l L → t.others ≡ s.others → length t.upper ≡ 8 → length t.lower ≡ 8
+        → AreRunningSums t (R ++ B)
+    AreRunningSums-windows t bytes upper lower others m n = record {
+      low = omega (arith, upper, lower, ap (λ o. o.low) others, are.low, units, low_units-small, sum_by-append low_weight R B);
+      high = omega (arith, ap (λ o. o.high) others, are.high, high_units-small, sum_by-append high_weight R B);
+      lower_bytes = omega (arith, lower, are.lower_bytes, bytes, length-append R B);
+      upper_lanes = m;
+      lower_lanes = n;
+    }
+
+  -- any other block
+  module _ (b : WeightSums) (sums : AreSumsOf b B) where
+    pub others_fit : length R + length B ≤ 2 ^ 21 → (s.others.low + b.low < 2 ^ 64) × (s.others.high + b.high < 2 ^ 64)
+    others_fit few = (
+      omega (arith, are.low, low_units-le R, sums.low, low_units-le B),
+      omega (arith, are.high, high_units-le R, sums.high, high_units-le B),
+    )
+
+    pub AreRunningSums-others : (t : RunningSums) → t.upper ≡ s.upper → t.lower ≡ s.lower → t.others.low ≡ s.others.low + b.low → t.others.high ≡ s.others.high + b.high → AreRunningSums t (R ++ B)
+    AreRunningSums-others t upper lower low high = record {
+      low = omega (arith, ap sum_l upper, ap sum_l lower, low, are.low, sums.low, sum_by-append low_weight R B);
+      high = omega (arith, high, are.high, sums.high, sum_by-append high_weight R B);
+      lower_bytes = omega (arith, ap sum_l lower, are.lower_bytes, length-append R B);
+      upper_lanes = ap length upper ∙ are.upper_lanes;
+      lower_lanes = ap length lower ∙ are.lower_lanes;
+    }
+
+-- the sums in lanes are below those of all values
+pub lanes_fit : (s : RunningSums) (R : List ℕ) → AreRunningSums s R → length R ≤ 2 ^ 21 → (sum_l s.upper < 2 ^ 29) × (sum_l s.lower < 2 ^ 29) × (s.others.low ≤ 2 ^ 52)
+lanes_fit s R are few = (omega (arith, are.low, low_units-le R), omega (arith, are.lower_bytes), omega (arith, are.low, low_units-le R))

@@ -1,6 +1,6 @@
 -- SPDX-License-Identifier: Apache-2.0
 -- Lemmas on sums of weights by windows of sixteen values.
-use Rattle.std.proofs.Common.{◌≡◌, ℕ, ◌+◌, ◌-◌, ◌*◌, ◌/◌, ◌%◌, ◌^◌, ◌<◌, ◌≤◌, ◌==◌, zero, suc, List, [], ◌∷◌, length, get_or, replicate, All, Bool, true, false, cond, bit_and, bit_or, T, inl, inr, refl, sym, ap, subst, ◌∙◌, arith, w8}
+use Rattle.std.proofs.Common.{◌≡◌, ℕ, ◌+◌, ◌-◌, ◌*◌, ◌/◌, ◌%◌, ◌^◌, ◌<◌, ◌≤◌, ◌==◌, zero, suc, List, [], ◌∷◌, ◌++◌, length, get_or, replicate, All, Bool, true, false, cond, bit_and, bit_or, T, inl, inr, refl, sym, ap, subst, ◌∙◌, arith, w8}
 use Rattle.std.specs.Prelude.{◌||◌, nat_lt, sum_by, not}
 use Rattle.std.specs.List.{list_all, range_with_len}
 use Rattle.std.specs.Simd.Lanes.{zip2, Each1, sum_l}
@@ -117,6 +117,10 @@ sum_l-map : (f : ℕ → ℕ) (xs : List ℕ) → sum_l (map f xs) ≡ sum_by f 
 sum_l-map f [] = refl
 sum_l-map f (x ∷ xs) = ap (λ n. f x + n) (sum_l-map f xs) ∙ sym (sum_by-cons f x xs)
 
+pub sum_l-append : (xs ys : List ℕ) → sum_l (xs ++ ys) ≡ sum_l xs + sum_l ys
+sum_l-append [] ys = omega arith
+sum_l-append (x ∷ xs) ys = omega (arith, sum_l-append xs ys)
+
 -- the sum of bytes in sixteen lanes
 pub sum_l-dots : (xs : List ℕ) → length xs ≡ 64 → (sum_l (dots xs (replicate 64 1)) ≡ sum_l xs) × (length (dots xs (replicate 64 1)) ≡ 16)
 sum_l-dots xs e =
@@ -148,6 +152,10 @@ window_weight-le v = elim (nat_lt v 16) as (λ b. cond b (2 ^ (15 - v)) 0 ≤ 2 
 
 pub window_units-le : (R : List ℕ) → window_units R ≤ length R * 2 ^ 15
 window_units-le R = sum_by-le window_weight (2 ^ 15) R (λ k d l. window_weight-le (get_or R k d))
+
+-- the sum of the lower bytes
+pub lower_bytes-le : (R : List ℕ) → sum_l (map (λ v. window_weight v % 256) R) ≤ 255 * length R
+lower_bytes-le R = omega (arith, sum_l-map lower_byte R, sum_by-le lower_byte 255 R (λ k d l. let most : lower_byte (get_or R k d) ≤ 255 = omega arith in most))
 
 -- both bytes of the weights of a block
 module _ (R U L : List ℕ) (u : sum_l U ≡ sum_l (map (λ v. window_weight v / 256) R)) (l : sum_l L ≡ sum_l (map (λ v. window_weight v % 256) R)) where

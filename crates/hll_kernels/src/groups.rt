@@ -10,7 +10,9 @@ ghost use Rattle.hll_kernels.specs.Packed as packed;
 ghost use Rattle.hll_kernels.specs.Packed.{fields, field_bytes, group_bytes, zeros};
 ghost use Rattle.hll_kernels.specs.WeightSums.{AreSumsOf};
 
-use crate::kernels::{WeightSums, all_zero, block_sums, count_zeros, max_16, max_one, weight_sums};
+use crate::kernels::{
+    RunningSums, WeightSums, all_zero, count_zeros, max_16, max_one, weight_sums,
+};
 use std::alloc::{AllocError, Allocator};
 use std::simd::prelude::*;
 
@@ -444,18 +446,11 @@ fn field_sums(bytes: &[u8]) -> WeightSums
     ensures { AreSumsOf result (fields bytes.now) }
 {
     let (blocks, rest) = bytes.as_chunks::<48>();
-    let mut sums = WeightSums { low: 0, high: 0 };
+    let mut sums = RunningSums::new();
     for block in blocks {
-        sums = sums.plus(field_sums_in(block));
+        sums.add(&unpacked_block(block));
     }
-    sums.plus(field_sums_one_by_one(rest))
-}
-
-/// Returns the sums of the weights of the registers of sixteen groups.
-fn field_sums_in(block: &[u8; 48]) -> WeightSums
-    ensures { AreSumsOf result (fields block.now) }
-{
-    block_sums(&unpacked_block(block))
+    sums.total().plus(field_sums_one_by_one(rest))
 }
 
 /// Returns the sums of the weights of the registers of at most 15 groups.

@@ -1,7 +1,7 @@
 // SPDX-License-Identifier: Apache-2.0
 //! Loops over the bytes of registers: with SIMD lanes, and byte by byte for what is left after the last full block.
 //! None of them allocates.
-ghost use Rattle.std.specs.Prelude.{◌≡◌, ℕ, ◌+◌, ◌-◌, ◌*◌, ◌/◌, ◌%◌, ◌^◌, ◌<◌, ◌≤◌, ◌==◌, nat_le, nat_lt, not, [], ◌∷◌, count_by, length, map, slice_index, All};
+ghost use Rattle.std.specs.Prelude.{◌≡◌, ℕ, ◌+◌, ◌-◌, ◌*◌, ◌/◌, ◌%◌, ◌^◌, ◌<◌, ◌≤◌, ◌==◌, nat_le, nat_lt, not, List, [], ◌∷◌, ◌++◌, count_by, length, map, slice_index, All};
 ghost use Rattle.std.specs.List.{list_all};
 ghost use Rattle.std.specs.Simd.Lanes.{mask_l, sum_l};
 ghost use Rattle.hll_base.specs.Join.{join};
@@ -9,7 +9,7 @@ ghost use Rattle.hll_kernels.specs.Lanes.{max_at, window_weight, window_units, I
 ghost use Rattle.hll_kernels.specs.Packed as packed;
 ghost use Rattle.hll_kernels.specs.Packed.{zeros};
 ghost use Rattle.hll_kernels.specs.Packed.{AreRegisters};
-ghost use Rattle.hll_kernels.specs.WeightSums.{AreSumsOf};
+ghost use Rattle.hll_kernels.specs.WeightSums.{AreSumsOf, AreRunningSums};
 
 use std::simd::prelude::*;
 
@@ -266,6 +266,92 @@ impl WeightSums {
     }
 }
 
+/// The sums of 2^-v over values v that come in blocks. The values of blocks in which all are below 16 are summed in lanes: the
+/// upper bytes of 2^(15 - v), and the lower ones.
+#[derive(Clone, Copy)]
+pub(crate) struct RunningSums {
+    upper: u32x8,
+    lower: u32x8,
+    others: WeightSums,
+}
+
+impl RunningSums {
+    /// Returns the sums over no values.
+    #[inline(always)]
+    pub(crate) fn new() -> RunningSums
+        ensures { AreRunningSums result [] }
+    {
+        RunningSums {
+            upper: u32x8::splat(0),
+            lower: u32x8::splat(0),
+            others: WeightSums { low: 0, high: 0 },
+        }
+    }
+
+    /// Adds the values of a block, each at most 63. There are at most 2^21 values in all.
+    ///
+    /// In most blocks no value is above 15.
+    #[inline(always)]
+    pub(crate) fn add(&mut self, block: &[u8; 64])
+        requires small { All (λ v. v ≤ 63) block.now }
+        requires few { (R : List ℕ) × AreRunningSums self.old R × (length R + 64 ≤ 2 ^ 21) }
+        ensures { (R : List ℕ) → AreRunningSums self.old R → AreRunningSums self.new (R ++ block.now) }
+    {
+        if are_below(block, 16) {
+            let values = u8x64::from_array(*block);
+            let upper = halves_added(byte_sums(upper_bytes(values)));
+            let lower = halves_added(byte_sums(lower_bytes(values)));
+            self.upper = lanes_added(self.upper, upper);
+            self.lower = lanes_added(self.lower, lower);
+        } else {
+            self.others = self.others.plus(block_sums_above_least(block));
+        }
+    }
+
+    /// Returns the sums over at most 2^21 values.
+    pub(crate) fn total(self) -> WeightSums
+        requires { (R : List ℕ) × AreRunningSums self R × (length R ≤ 2 ^ 21) }
+        ensures { (R : List ℕ) → AreRunningSums self R → AreSumsOf result R }
+    {
+        let upper = u64::from(sum_of_eight(self.upper));
+        let lower = u64::from(sum_of_eight(self.lower));
+        WeightSums {
+            low: (upper << 24) + (lower << 16) + self.others.low,
+            high: self.others.high,
+        }
+    }
+}
+
+/// Returns the sum of the lanes.
+fn sum_of_eight(lanes: u32x8) -> u32
+    requires { sum_l lanes < 2 ^ 32 }
+    ensures { result ≡ sum_l lanes }
+{
+    lanes.strict_reduce_sum()
+}
+
+/// Returns the sums of each lane of the first half and a lane of the second half.
+#[inline(always)]
+fn halves_added(lanes: u32x16) -> u32x8
+    requires lanes { length lanes ≡ 16 }
+    requires small { sum_l lanes < 2 ^ 32 }
+    ensures sum { sum_l result ≡ sum_l lanes }
+    ensures lanes { length result ≡ 8 }
+{
+    lanes_added(lanes.extract::<0, 8>(), lanes.extract::<8, 8>())
+}
+
+/// Returns the sums of lanes at the same index.
+#[inline(always)]
+fn lanes_added(lanes: u32x8, others: u32x8) -> u32x8
+    requires lanes { length lanes ≡ length others }
+    requires small { sum_l lanes + sum_l others < 2 ^ 32 }
+    ensures sum { sum_l result ≡ sum_l lanes + sum_l others }
+    ensures lanes { length result ≡ length lanes }
+{
+    lanes.strict_add(others)
+}
+
 /// Returns the sums of 2^-v over the bytes v.
 ///
 /// There are at most 2^21 bytes, each at most 63. One pass, by blocks of 64; allocates nothing.
@@ -275,11 +361,11 @@ pub fn weight_sums(bytes: &[u8]) -> WeightSums
     ensures { AreSumsOf result bytes.now }
 {
     let (blocks, rest) = bytes.as_chunks::<64>();
-    let mut sums = WeightSums { low: 0, high: 0 };
+    let mut sums = RunningSums::new();
     for block in blocks {
-        sums = sums.plus(block_sums(block));
+        sums.add(block);
     }
-    sums.plus(weight_sums_one_by_one(rest))
+    sums.total().plus(weight_sums_one_by_one(rest))
 }
 
 /// Returns the sum of 2^-v over the bytes v, in units of 2^-63.
@@ -294,21 +380,8 @@ pub fn units(bytes: &[u8]) -> u128
     weight_sums(bytes).units()
 }
 
-/// Returns the sums of 2^-v over the bytes v of a block, each at most 63.
-///
-/// In most blocks no value is above 15.
-#[inline(always)]
-pub(crate) fn block_sums(block: &[u8; 64]) -> WeightSums
-    requires { All (λ v. v ≤ 63) block.now }
-    ensures { AreSumsOf result block.now }
-{
-    if are_below(block, 16) {
-        return shifted_sums(block, 0);
-    }
-    block_sums_above_least(block)
-}
-
 /// Returns the sums over a block. Works on the differences from its least value if they are below 16.
+#[cold]
 #[inline(never)]
 fn block_sums_above_least(block: &[u8; 64]) -> WeightSums
     requires { All (λ v. v ≤ 63) block.now }

@@ -271,7 +271,7 @@ const SKETCH_CALLS: [(SketchCall, [[u64; 10]; 3]); 18] = [
     ),
     (
         SketchCall::Check,
-        [[0, 0, 0, 0, 0, 0, 0, 2, 2, 6], [0; 10], [0; 10]],
+        [[0, 0, 0, 0, 0, 0, 0, 0, 0, 6], [0; 10], [0; 10]],
     ),
     (
         SketchCall::CheckBuckets,

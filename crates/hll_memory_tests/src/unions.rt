@@ -6,8 +6,8 @@ use hll_base::error::Error;
 use hll_base::hll_type::HllType;
 use hll_sketch::coupon_images::coupon_image_with;
 use hll_sketch::{
-    HllSketch, HllUnion, agree, coupon_image_at, register_image_at, union_of,
-    union_of_coupon_images,
+    HllSketch, HllUnion, agree, coupon_image_at, held_register_image, register_image_at, union_of,
+    union_of_coupon_images, union_of_one_coupon_image,
 };
 use hll_text::fault::Fault;
 use std::alloc::Global;
@@ -28,10 +28,12 @@ enum UnionCall {
     UnionOf,
     UnionOfThree,
     Agree,
+    ImageOnce,
     ImageTwice,
     ImageAt,
     ImageWith,
     RegistersAt,
+    RegistersWith,
 }
 
 /// A call on a union with a bound, of one 8-bit sketch, and on another sketch of some width.
@@ -113,10 +115,15 @@ fn with_all_buckets(alloc: Global, image: &[u8]) -> Result<Vec<u8>, Fault> {
 }
 
 impl<'h> UnionTrial<'h> {
-    /// Returns the image that a call makes from the bytes of an image: of the union with itself, or at another width.
+    /// Returns the image that a call makes from the bytes of an image: of its union, of the union with itself, at another width,
+    /// or with a coupon added.
     fn image_made(&self, image: &[u8]) -> Result<String, Fault> {
         let heap = self.heap;
         match self.call {
+            UnionCall::ImageOnce => {
+                let made = union_of_one_coupon_image(heap, self.lg_max_k, self.hll_type, image);
+                shown(heap, made)
+            }
             UnionCall::ImageTwice => {
                 let made = union_of_coupon_images(heap, self.lg_max_k, self.hll_type, image, image);
                 shown(heap, made)
@@ -126,6 +133,10 @@ impl<'h> UnionTrial<'h> {
                 shown(heap, coupon_image_with(heap, image, &mut more))
             }
             UnionCall::RegistersAt => shown(heap, register_image_at(heap, self.hll_type, image)),
+            UnionCall::RegistersWith => {
+                let held = [coupon_at(self.incoming.1).raw()];
+                shown(heap, held_register_image(heap, image, &held))
+            }
             _ => shown(heap, coupon_image_at(heap, self.hll_type, image)),
         }
     }
@@ -180,10 +191,12 @@ impl<'h> Trial for UnionTrial<'h> {
                 None => Err(Fault::Stack),
             },
             UnionCall::UpdateImage => shown(self.heap, union.update_with_image(image)),
-            UnionCall::ImageTwice
+            UnionCall::ImageOnce
+            | UnionCall::ImageTwice
             | UnionCall::ImageAt
             | UnionCall::ImageWith
-            | UnionCall::RegistersAt => self.image_made(image),
+            | UnionCall::RegistersAt
+            | UnionCall::RegistersWith => self.image_made(image),
             UnionCall::UpdateBuckets => {
                 let image = with_all_buckets(self.heap.inner(), image)?;
                 shown(self.heap, union.update_with_image(&image))
@@ -225,7 +238,7 @@ const UNIONS: [(u8, Shape, Shape); 13] = [
 ];
 
 /// The calls, and the requests of each on these unions, for 4-bit, 6-bit and 8-bit registers.
-const UNION_CALLS: [(UnionCall, [[u64; 13]; 3]); 16] = [
+const UNION_CALLS: [(UnionCall, [[u64; 13]; 3]); 18] = [
     (
         UnionCall::Clone,
         [[0, 0, 0, 0, 0, 0, 0, 1, 1, 1, 1, 1, 1]; 3],
@@ -285,6 +298,10 @@ const UNION_CALLS: [(UnionCall, [[u64; 13]; 3]); 16] = [
     ),
     (UnionCall::Agree, [[2; 13]; 3]),
     (
+        UnionCall::ImageOnce,
+        [[0, 1, 1, 1, 1, 1, 0, 0, 0, 0, 0, 0, 0]; 3],
+    ),
+    (
         UnionCall::ImageTwice,
         [[0, 2, 2, 2, 2, 2, 0, 0, 0, 0, 0, 0, 0]; 3],
     ),
@@ -298,6 +315,14 @@ const UNION_CALLS: [(UnionCall, [[u64; 13]; 3]); 16] = [
     ),
     (
         UnionCall::RegistersAt,
+        [
+            [0; 13],
+            [0, 0, 0, 0, 0, 0, 1, 1, 1, 0, 1, 1, 1],
+            [0, 0, 0, 0, 0, 0, 1, 1, 1, 0, 1, 1, 1],
+        ],
+    ),
+    (
+        UnionCall::RegistersWith,
         [
             [0; 13],
             [0, 0, 0, 0, 0, 0, 1, 1, 1, 0, 1, 1, 1],

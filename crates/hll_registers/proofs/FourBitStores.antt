@@ -184,7 +184,7 @@ packed_values k R low are m n bytes e least is zeros map_for excepted =
 -- ---- maxima
 
 -- the value of each nibble
-nibble_values-at : (m : ℕ) (bytes : List ℕ) (s : ℕ) → All (λ b. b < 256) bytes → s < 2 * length bytes → get_or (nibble_values m bytes) s 0 ≡ m + nibble_at bytes s
+pub nibble_values-at : (m : ℕ) (bytes : List ℕ) (s : ℕ) → All (λ b. b < 256) bytes → s < 2 * length bytes → get_or (nibble_values m bytes) s 0 ≡ m + nibble_at bytes s
 nibble_values-at m [] s fits l = absurd (omega (arith, l))
 nibble_values-at m (b ∷ bs) zero fits l = let at : nibble_at (b ∷ bs) 0 ≡ b % 16 = nibble_at-low b bs in omega (arith, at)
 nibble_values-at m (b ∷ bs) (suc zero) fits l = let at : nibble_at (b ∷ bs) 1 ≡ b / 16 = nibble_at-high b bs (fits 0 0 (omega arith)) in omega (arith, at)

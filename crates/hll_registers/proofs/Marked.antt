@@ -131,25 +131,35 @@ has-slot k (Some t) (legal, lg, some) q v at =
 
 -- ---- equal numbers of nibbles of 15 and exceptions
 
-module _ (k : ℕ) (bytes : List ℕ) (e : Option ExceptionMap) (size : 2 * length bytes ≡ 2 ^ k) (fits : All (λ b. b < 256) bytes) (is : IsMapFor k e) where
+module _ (k : ℕ) (bytes : List ℕ) (size : 2 * length bytes ≡ 2 ^ k) (fits : All (λ b. b < 256) bytes) where
   has_at : (s : ℕ) → s < 2 ^ k → nibble_at bytes s ≡ 15 → has s (marked 0 bytes) ≡ true
   has_at s l mark =
       let at : s ≡ 0 + s = omega arith in
       ap (λ n. has n (marked 0 bytes)) at ∙ has-marked 0 s bytes fits (omega (arith, l, size)) mark
 
-  -- if each exception has such a nibble, no other slot has one
-  pub no_other : mark_nibbles bytes ≡ len (exceptions_in e) → ((s v : ℕ) → exception_in e s ≡ Some v → nibble_at bytes s ≡ 15) → (s : ℕ) → s < 2 ^ k → exception_in e s ≡ None → nibble_at bytes s ≡ 15 → ⊥
-  no_other many each s l none mark =
-      let S : List ℕ = slots_in e in
-      let new : has s S ≡ true → ⊥ = λ h. let x = from_slots k e is s h in let both : Some x.0 ≡ None = sym x.1 ∙ none in cc in
-      let more : len (set_of (s ∷ S)) ≡ len (set_of S) + 1 = len-between [] S s (lacks S s new) in
-      let part : len (set_of (s ∷ S)) ≤ len (set_of (marked 0 bytes)) = len-part (s ∷ S) (set_of (marked 0 bytes)) (λ q h.
-      contains-has (marked 0 bytes) q ∙ elim (or_cases (eq_by_cmp nat_cmp q s) (has q S) (sym (contains-has (s ∷ S) q) ∙ h)) [
-        | inl here ↦ ap (λ n. has n (marked 0 bytes)) (same_raw_coupon q s here) ∙ has_at s l mark
-        | inr other ↦ let x = from_slots k e is q other in has_at q (slot_within k e is q x.0 x.1) (each q x.0 x.1)
-      ]) in
-      omega (arith, more, part, len-marked 0 bytes, len-slots k e is, many)
+  -- exceptions, and the list of their slots
+  module _ (x : ℕ → Option ℕ) (S : List ℕ) (from : (q : ℕ) → has q S ≡ true → (v : ℕ) × (x q ≡ Some v)) (within : (q v : ℕ) → x q ≡ Some v → q < 2 ^ k) where
+    -- if each exception has such a nibble, no other slot has one
+    no_other : mark_nibbles bytes ≡ len (set_of S) → ((s v : ℕ) → x s ≡ Some v → nibble_at bytes s ≡ 15) → (s : ℕ) → s < 2 ^ k → x s ≡ None → nibble_at bytes s ≡ 15 → ⊥
+    no_other many each s l none mark =
+        let new : has s S ≡ true → ⊥ = λ h. let y = from s h in let both : Some y.0 ≡ None = sym y.1 ∙ none in cc in
+        let more : len (set_of (s ∷ S)) ≡ len (set_of S) + 1 = len-between [] S s (lacks S s new) in
+        let part : len (set_of (s ∷ S)) ≤ len (set_of (marked 0 bytes)) = len-part (s ∷ S) (set_of (marked 0 bytes)) (λ q h.
+        contains-has (marked 0 bytes) q ∙ elim (or_cases (eq_by_cmp nat_cmp q s) (has q S) (sym (contains-has (s ∷ S) q) ∙ h)) [
+          | inl here ↦ ap (λ n. has n (marked 0 bytes)) (same_raw_coupon q s here) ∙ has_at s l mark
+          | inr other ↦ let y = from q other in has_at q (within q y.0 y.1) (each q y.0 y.1)
+        ]) in
+        omega (arith, more, part, len-marked 0 bytes, many)
 
+    -- then they agree at each slot
+    pub agree_each : (m : ℕ) → mark_nibbles bytes ≡ len (set_of S) → ((s : ℕ) → s < 2 * length bytes → nibble_at bytes s < 15 → m + nibble_at bytes s ≤ 63) →
+        ((s v : ℕ) → x s ≡ Some v → Agrees m (nibble_at bytes s) (Some v)) → (s : ℕ) → s < 2 ^ k → Agrees m (nibble_at bytes s) (x s)
+    agree_each m many plain each s l = agrees_either m (nibble_at bytes s) (x s) (each s) (λ none.
+        let other : nibble_at bytes s ≢ 15 = no_other many (λ q v at. (each q v at).0) s l none in
+        let below : nibble_at bytes s < 15 = omega (arith, other, nibble_at-small bytes s) in
+        (below, plain s (omega (arith, l, size)) below))
+
+module _ (k : ℕ) (bytes : List ℕ) (e : Option ExceptionMap) (size : 2 * length bytes ≡ 2 ^ k) (fits : All (λ b. b < 256) bytes) (is : IsMapFor k e) where
   -- if nibbles and exceptions agree, there are equally many
   pub as_many : (m : ℕ) → ((s : ℕ) → s < 2 ^ k → Agrees m (nibble_at bytes s) (exception_in e s)) → mark_nibbles bytes ≡ len (exceptions_in e)
   as_many m agree =
@@ -163,7 +173,7 @@ module _ (k : ℕ) (bytes : List ℕ) (e : Option ExceptionMap) (size : 2 * leng
       let x = from_slots k e is q (sym (contains-has S q) ∙ h) in
       let l : q < 2 ^ k = slot_within k e is q x.0 x.1 in
       let here : Agrees m (nibble_at bytes q) (Some x.0) = subst (Agrees m (nibble_at bytes q)) x.1 (agree q l) in
-      contains-has M q ∙ has_at q l here.0) in
+      contains-has M q ∙ has_at k bytes size fits q l here.0) in
       omega (arith, few, all, len-marked 0 bytes, len-slots k e is)
     where
       excepted : (q : ℕ) (o : Option ℕ) → exception_in e q ≡ o → Agrees m (nibble_at bytes q) o → nibble_at bytes q ≡ 15 → has q (slots_in e) ≡ true
@@ -173,10 +183,7 @@ module _ (k : ℕ) (bytes : List ℕ) (e : Option ExceptionMap) (size : 2 * leng
   -- then they agree at each slot
   pub agree_all : (m : ℕ) → mark_nibbles bytes ≡ len (exceptions_in e) → ((s : ℕ) → s < 2 * length bytes → nibble_at bytes s < 15 → m + nibble_at bytes s ≤ 63) →
       ((s v : ℕ) → exception_in e s ≡ Some v → Agrees m (nibble_at bytes s) (Some v)) → (s : ℕ) → s < 2 ^ k → Agrees m (nibble_at bytes s) (exception_in e s)
-  agree_all m many plain each s l = agrees_either m (nibble_at bytes s) (exception_in e s) (each s) (λ none.
-      let other : nibble_at bytes s ≢ 15 = no_other many (λ q v at. (each q v at).0) s l none in
-      let below : nibble_at bytes s < 15 = omega (arith, other, nibble_at-small bytes s) in
-      (below, plain s (omega (arith, l, size)) below))
+  agree_all m many plain each = agree_each k bytes size fits (exception_in e) (slots_in e) (from_slots k e is) (slot_within k e is) m (many ∙ sym (len-slots k e is)) plain each
 
   -- above a minimum of 48 no exception agrees
   pub none_above : (m : ℕ) → 48 < m → ((s : ℕ) → s < 2 ^ k → Agrees m (nibble_at bytes s) (exception_in e s)) → (s : ℕ) → s < 2 * length bytes → m + nibble_at bytes s ≤ 63

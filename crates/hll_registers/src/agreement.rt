@@ -42,7 +42,7 @@ pub(crate) fn agree<A: Allocator>(
 
 /// Returns whether the minimum plus each nibble below 15 is at most 63. That holds for all nibbles if the minimum is at
 /// most 49. There is at least one nibble.
-fn are_plain(nibbles: &[u8], minimum: u8) -> bool
+pub fn are_plain(nibbles: &[u8], minimum: u8) -> bool
     requires { 0 < length nibbles.now }
     ensures least { result ≡ true → minimum ≤ 63 }
     ensures all { result ≡ true → (s : ℕ) → s < 2 * length nibbles.now → nibble_at nibbles.now s < 15 → minimum + nibble_at nibbles.now s ≤ 63 }

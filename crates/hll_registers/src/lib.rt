@@ -2,7 +2,7 @@
 //! Traits for registers that can be read and made, and 4-bit registers (docs/ARCHITECTURE.md, "Registers").
 #![tactic(auto)]
 
-mod agreement;
+pub mod agreement;
 pub mod aux_format;
 pub mod estimate_state;
 pub mod exception_map;

@@ -13,9 +13,10 @@ use Rattle.hll_coupons.specs.Coupons.{coupon_bytes, AreCoupons, IsAscending, Wri
 use Rattle.hll_coupons.proofs.Ascending.{len-ascending}
 use Rattle.hll_coupons.proofs.Merging.{count_in_bytes}
 use Rattle.hll_sketch.specs.Adding.{add, content_for, content_with}
-use Rattle.hll_sketch.specs.CouponImages.{IsInOrder, HaveUnionInTable, IsImageOfUnion, AreBothRead, IsImageAt, IsFoldedImage, IsImageOfBoth, IsImageWith}
+use Rattle.hll_sketch.specs.CouponImages.{IsInOrder, order_of, IsOrdered, IsOrderedImage, HaveUnionInTable, IsImageOfUnion, HasCouponsAt, IsImageOfUnionOfOne, AreBothRead, IsImageAt, IsFoldedImage, IsImageOfBoth, IsImageWith}
 use Rattle.hll_sketch.specs.Folding.{folded, folded_content}
 use Rattle.hll_sketch.specs.Header.{header_of}
+use Rattle.hll_sketch.specs.declared.coupon_images.OrderedImage.{OrderedImage}
 use Rattle.hll_sketch.specs.declared.header.Header.{Header}
 use Rattle.hll_sketch.specs.Image.{AreBytes, IsReadAs, byte, lg_k_byte, table_byte, width_bits, width_of_bits, HasHeader, list, set, hll8, hll6, hll4}
 use Rattle.hll_sketch.specs.Merging.{merge, merge_content, empty_union}
@@ -107,28 +108,32 @@ same_coupons b xs ys of same = record {
 
 -- ---- the union
 
+not_empty : (z : Sketch) (P : Pairs) (r : ℕ) → z.content ≡ coupons P r → len P ≢ 0 → is_empty z ≡ false
+not_empty z P r is some = ap (λ c. nat_eq (len (pairs_in c)) 0) is ∙ ne_eqb (len P) 0 some
+
+-- a union of these coupons
+abbrev union_with : ℕ → Pairs → ℕ → Sketch
+union_with k S p = record { lg_k = k; width = Hll8; content = coupons S p }
+
+-- the first sketch is copied with its table
+taken_whole : (k : ℕ) (x : Sketch) (S : Pairs) (p : ℕ) → x.lg_k ≡ k → x.content ≡ coupons S p → len S ≢ 0 → merge k (empty_union k) x ≡ union_with k S p
+taken_whole k x S p at_k x_is some_x =
+    cond-false (is_empty x) (empty_union k) (merge_content k (empty_union k) x x.content) (not_empty x S p x_is some_x)
+    ∙ ap (merge_content k (empty_union k) x) x_is
+    ∙ cond-true (is_empty (empty_union k) && nat_eq k x.lg_k) (record (empty_union k) { content = x.content }) (add (empty_union k) (pairs_of x)) whole
+    ∙ ap (λ c. let z : Sketch = record { lg_k = k; width = Hll8; content = c } in z) x_is
+  where
+    whole : (is_empty (empty_union k) && nat_eq k x.lg_k) ≡ true
+    whole = (λ i. nat_eq (len-empty nat_cmp i) 0 && nat_eq k x.lg_k) ∙ eq-eqb k x.lg_k (sym at_k)
+
 module _ (k : ℕ) (x y : Sketch) (S T : Pairs) (p q : ℕ) (at_k : x.lg_k ≡ k) (x_is : x.content ≡ coupons S p) (y_is : y.content ≡ coupons T q) (some_x : len S ≢ 0) (some_y : len T ≢ 0) where
   abbrev first : Sketch
-  first = record { lg_k = k; width = Hll8; content = coupons S p }
-
-  not_empty : (z : Sketch) (P : Pairs) (r : ℕ) → z.content ≡ coupons P r → len P ≢ 0 → is_empty z ≡ false
-  not_empty z P r is some = ap (λ c. nat_eq (len (pairs_in c)) 0) is ∙ ne_eqb (len P) 0 some
-
-  -- the first sketch is copied with its table
-  taken_whole : merge k (empty_union k) x ≡ first
-  taken_whole =
-      cond-false (is_empty x) (empty_union k) (merge_content k (empty_union k) x x.content) (not_empty x S p x_is some_x)
-      ∙ ap (merge_content k (empty_union k) x) x_is
-      ∙ cond-true (is_empty (empty_union k) && nat_eq k x.lg_k) (record (empty_union k) { content = x.content }) (add (empty_union k) (pairs_of x)) whole
-      ∙ ap (λ c. let z : Sketch = record { lg_k = k; width = Hll8; content = c } in z) x_is
-    where
-      whole : (is_empty (empty_union k) && nat_eq k x.lg_k) ≡ true
-      whole = (λ i. nat_eq (len-empty nat_cmp i) 0 && nat_eq k x.lg_k) ∙ eq-eqb k x.lg_k (sym at_k)
+  first = union_with k S p
 
   -- the coupons of the second sketch are added
   pub merged : (o : Option ℕ) → stage k p (len (union S T)) ≡ o → merge k (merge k (empty_union k) x) y ≡ record { lg_k = k; width = Hll8; content = content_for k (union S T) o }
   merged o held =
-      ap (λ g. merge k g y) taken_whole
+      ap (λ g. merge k g y) (taken_whole k x S p at_k x_is some_x)
       ∙ cond-false (is_empty y) first (merge_content k first y y.content) (not_empty y T q y_is some_y)
       ∙ ap (merge_content k first y) y_is
       ∙ cond-false (is_empty first && nat_eq k y.lg_k) (record first { content = y.content }) (add first (pairs_of y)) (ap (λ b. b && nat_eq k y.lg_k) (ne_eqb (len S) 0 some_x))
@@ -159,10 +164,10 @@ empty_order : (b xs : List ℕ) (k size : ℕ) (of : IsInOrder b k size xs) → 
 empty_order b [] k size of none = ap (λ c. nat_eq (len (pairs_in c)) 0) of.content ∙ ap (λ n. nat_eq n 0) (len-empty nat_cmp)
 empty_order b (x ∷ xs) k size of none = absurd (omega (arith, none))
 
-module _ (k kl kr p q : ℕ) (left right xs ys : List ℕ) (l : IsInOrder left kl p xs) (r : IsInOrder right kr q ys) (at_k : kl ≡ k) (some : length xs ≢ 0) (others : length ys ≢ 0) where
-  some_of : (zs : List ℕ) → length zs ≢ 0 → len (set_of zs) ≢ 0
-  some_of zs has none = has (ap length (none_listed zs none))
+some_of : (zs : List ℕ) → length zs ≢ 0 → len (set_of zs) ≢ 0
+some_of zs has none = has (ap length (none_listed zs none))
 
+module _ (k kl kr p q : ℕ) (left right xs ys : List ℕ) (l : IsInOrder left kl p xs) (r : IsInOrder right kr q ys) (at_k : kl ≡ k) (some : length xs ≢ 0) (others : length ys ≢ 0) where
   pub image_of_union : (width : HllType) (image : List ℕ) → IsLgK kl → IsImageOfBoth k width p xs ys image → IsImageOfUnion k width left right image
   image_of_union width image legal both =
       let U : Pairs = union (set_of xs) (set_of ys) in
@@ -248,6 +253,39 @@ module _ (k size : ℕ) (b xs : List ℕ) (of : IsInOrder b k size xs) where
       let legal : IsLegal of.sketch = read_is_legal b of.sketch are of.read in
       let table : IsTableFor of.sketch.lg_k (len (set_of xs)) size = (subst (IsLegalContent of.sketch.lg_k) of.content legal.content).1 in
       subst (λ n. IsTableFor n (length xs) size) of.lg_k (subst (λ n. IsTableFor of.sketch.lg_k n size) (sym (len-ascending xs (set_of xs) own_order)) table)
+
+-- what an image says is ordered
+pub is_ordered : (a : OrderedImage) (b : List ℕ) → AreBytes b → IsOrderedImage b a → IsOrdered a
+is_ordered a b are of = record {
+  lg_k = subst IsLgK of.lg_k (read_is_legal b of.sketch are of.read).lg_k;
+  ascends = of.ascends;
+  table = own_table a.lg_k a.lg_size b (order_of a) of are;
+}
+
+-- ---- the union of one image
+
+module _ (k own size : ℕ) (b xs : List ℕ) (of : IsInOrder b own size xs) where
+  pub image_of_one : own ≡ k → length xs ≢ 0 → IsLgK own → (width : HllType) (image : List ℕ) → image ≡ coupon_image own width size xs → IsImageOfUnionOfOne k width b image
+  image_of_one same some legal width image is =
+      let whole : merge k (empty_union k) of.sketch ≡ union_with k (set_of xs) size = taken_whole k of.sketch (set_of xs) size (of.lg_k ∙ same) of.content (some_of xs some) in
+      record {
+        bound_is = subst IsLgK same legal;
+        sketch = of.sketch;
+        read = of.read;
+        in_table = ap (λ (z : Sketch). in_registers z.content) whole;
+        written = subst (λ (z : Sketch). Written image (record z { width = width })) (sym whole) (record { order = xs; ascending = own_order own size b xs of; is = is ∙ ap (λ n. coupon_image n width size xs) same });
+      }
+
+  pub one_read_at : own ≡ k → IsLgK own → IsLgK k × (x : Sketch) × IsReadAs b x
+  one_read_at same legal = (subst IsLgK same legal, of.sketch, of.read)
+
+  -- it is not at the bound
+  pub at_other : (own ≡ k → ⊥) → HasCouponsAt k b → ⊥
+  at_other other has = other (sym of.lg_k ∙ (has.held of.sketch of.read).1)
+
+  -- it has no coupons
+  pub none_at : length xs ≡ 0 → HasCouponsAt k b → ⊥
+  none_at none has = true≢false (sym (empty_order b xs own size of none) ∙ (has.held of.sketch of.read).0)
 
 -- ---- one image with more coupons
 

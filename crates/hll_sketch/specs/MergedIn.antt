@@ -1,20 +1,23 @@
 -- SPDX-License-Identifier: Apache-2.0
 -- Images that are merged into a union (docs/MODEL.md, "Merging").
-use Rattle.std.specs.Prelude.{◌≡◌, ℕ, ◌<◌, ◌==◌, if◌then◌else◌, true, List, [], ◌∷◌, ◌++◌, drop, None}
+use Rattle.std.specs.Prelude.{◌≡◌, ℕ, ◌^◌, ◌<◌, ◌≤◌, ◌==◌, if◌then◌else◌, true, List, [], ◌∷◌, ◌++◌, drop, length, All, Some, None}
+use Rattle.hll_base.specs.declared.error.Reason.TheVariants.{Register}
+use Rattle.hll_arrays.specs.FewExceptions.{registers_with, HasExceptions}
 use Rattle.hll_coupons.specs.Coupons.{raw_coupons}
 use Rattle.hll_coupons.specs.Pair.{set_of}
 use Rattle.hll_coupons.specs.Payload.{set_count}
 use Rattle.hll_registers.specs.Payload.{exception_count}
 use Rattle.hll_registers.specs.Store.{Stored}
+use Rattle.hll_registers.specs.declared.estimate_state.EstimateState.{EstimateState}
 use Rattle.hll_sketch.specs.Borrowed.{AreEvidentlyCoupons}
-use Rattle.hll_sketch.specs.Checks.{size_fault}
+use Rattle.hll_sketch.specs.Checks.{first_fault, size_fault}
 use Rattle.hll_sketch.specs.Canonical.{IsCanonicalCleared}
 use Rattle.hll_sketch.specs.Image.{IsReadAs, stage_bits, width_bits, width_of_bits, state_byte, is_flagged}
 use Rattle.hll_sketch.specs.Joined.{IsMergeOf}
 use Rattle.hll_sketch.specs.Merging.{merge}
 use Rattle.hll_sketch.specs.Union.{UnionLayout, gadget_of, MergeNeedsMemory}
 use Rattle.hll_sketch.specs.Updatable.{HasUpdatableCoupons}
-use Rattle.hll_sketch.specs.Value.{Sketch, coupons, registers, in_registers}
+use Rattle.hll_sketch.specs.Value.{Sketch, IsLgK, coupons, registers, in_registers}
 
 -- The sketch that an image is read as was merged into a union. If the union was that of canonical sketches with cleared fields,
 -- and the sketch is one, it is now the union of all of them.
@@ -40,6 +43,21 @@ pub record IsOfRegisters (bytes : List ℕ) (x : Stored) : Type 0 where
   pub lg_k : sketch.lg_k ≡ x.lg_k
   pub width_is : sketch.width ≡ width_of_bits (width_bits bytes)
   pub content : sketch.content ≡ registers x.registers x.state
+
+-- the bytes are an image of these 8-bit registers, unless a register is above 63: then that is the first check that they fail
+pub record HasRegisterBytes (bytes : List ℕ) (k : ℕ) (R : List ℕ) : Type 0 where
+  pub lg_k : IsLgK k
+  pub size : length R ≡ 2 ^ k
+  pub state : EstimateState
+  pub read : All (λ v. v ≤ 63) R → IsOfRegisters bytes (record { lg_k = k; registers = R; state = state })
+  pub rejected : (All (λ v. v ≤ 63) R → ⊥) → first_fault bytes ≡ Some Register
+
+-- the bytes are an image of 4-bit registers with exceptions: nibbles above a minimum, and raw coupons
+pub record IsOfNibbles (bytes : List ℕ) (k m : ℕ) (nibbles entries : List ℕ) : Type 0 where
+  pub lg_k : IsLgK k
+  pub parts : HasExceptions k m nibbles entries
+  pub state : EstimateState
+  pub read : IsOfRegisters bytes (record { lg_k = k; registers = registers_with k m nibbles entries; state = state })
 
 -- ---- what may need an allocation
 

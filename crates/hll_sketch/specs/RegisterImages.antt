@@ -8,6 +8,7 @@ use Rattle.hll_registers.specs.Store.{Stored}
 use Rattle.hll_registers.specs.declared.estimate_state.EstimateState.{EstimateState}
 use Rattle.hll_sketch.specs.EstimatorFields.{FillsFields}
 use Rattle.hll_sketch.specs.Image.{IsReadAs}
+use Rattle.hll_sketch.specs.Laws.{add_in_turn}
 use Rattle.hll_sketch.specs.Value.{Sketch}
 use Rattle.hll_sketch.specs.Written.{Written}
 
@@ -24,4 +25,13 @@ pub record IsFilledImageOf (width : HllType) (image bytes : List ℕ) : Type 0 w
   pub width_is : sketch.width ≡ width
   pub filled : Sketch
   pub fills : FillsFields sketch filled
+  pub written : Written bytes filled
+
+-- the bytes are what is written for the sketch that an image is read as, with coupons added in turn, and then with its estimator
+-- fields set if its estimate state is cleared
+pub record IsFilledImageWith (added image bytes : List ℕ) : Type 0 where
+  pub sketch : Sketch
+  pub read : IsReadAs image sketch
+  pub filled : Sketch
+  pub fills : FillsFields (add_in_turn sketch added) filled
   pub written : Written bytes filled

@@ -1,7 +1,7 @@
 // SPDX-License-Identifier: Apache-2.0
 //! The sketch of an image. Coupons or registers that can be used in the bytes of the image are not copied, and few coupons with
 //! gaps between them are copied into room that the caller lends.
-ghost use Rattle.std.specs.Prelude.{◌≡◌, ◌<◌, IfOk, IfErr};
+ghost use Rattle.std.specs.Prelude.{◌≡◌, ◌<◌, IfSome, IfOk, IfErr};
 ghost use Rattle.hll_base.specs.declared.error.Reason.TheVariants.{Memory};
 ghost use Rattle.hll_coupons.specs.Coupons.{raw_coupons, AreCoupons};
 ghost use Rattle.hll_sketch.specs.BorrowedImage.{sketch_of_borrowed, sketch_of_coupons, HasCouponsInTable};
@@ -13,6 +13,7 @@ ghost use Rattle.hll_sketch.specs.MergedIn.{IsOfCoupons};
 ghost use Rattle.hll_sketch.specs.Refusal.{IsRefusal};
 ghost use Rattle.hll_sketch.specs.Value.{is_empty, IsLgK};
 
+use crate::coupon_images::says_registers;
 use crate::coupon_room::CouponRoom;
 use crate::coupons_of_image::CouponsOfImage;
 use crate::header::{Header, Stage};
@@ -133,6 +134,22 @@ impl<'a, A: Allocator> BorrowedImage<'a, A> {
             BorrowedImage::Bytes(_) => HllType::Hll8,
         }
     }
+}
+
+/// Returns the coupons of a compact image if they ascend or are at most 128. Returns `None` for other bytes.
+///
+/// It needs no room: `BorrowedImage::read` does, and clearing it takes about 10 ns.
+pub fn compact_image(image: &[u8]) -> Option<CouponsOfImage<'_>>
+    ensures { IfSome result (λ c. IsReadAs image.now (sketch_of_coupons c)) }
+{
+    if says_registers(image) {
+        return None;
+    }
+    let Ok(header) = Header::read(image) else {
+        return None;
+    };
+    let coupons = compact_coupons(image, header)?;
+    Some(coupons_of_image(image, header, coupons))
 }
 
 /// Returns the coupons after the header of an image of a list or a set, as `BorrowedImage::read` returns them.

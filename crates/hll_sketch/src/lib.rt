@@ -9,6 +9,7 @@ mod conversion;
 pub mod coupon_images;
 pub mod coupon_room;
 pub mod coupons_of_image;
+pub mod few_exceptions;
 mod folding;
 mod header;
 mod image_check;
@@ -22,6 +23,7 @@ mod promotion;
 mod raw_coupons;
 mod raw_registers;
 mod read_image;
+pub mod register_bytes;
 mod register_folds;
 pub mod register_images;
 pub mod sketch;
@@ -32,11 +34,13 @@ pub mod union;
 pub mod unions;
 mod updatable;
 
-pub use coupon_images::{coupon_image_at, folded_coupon_image, union_of_coupon_images};
+pub use coupon_images::{
+    coupon_image_at, folded_coupon_image, union_of_coupon_images, union_of_one_coupon_image,
+};
 pub use header::Stage;
 pub use mode::Mode;
-pub use raw_coupons::max_coupon;
-pub use register_images::register_image_at;
+pub use raw_coupons::{ascends, max_coupon};
+pub use register_images::{held_register_image, register_image_at};
 pub use sketch::HllSketch;
 pub use totals::{RegisterTotals, Totals};
 pub use union::{HllUnion, agree};

@@ -1,7 +1,7 @@
 // SPDX-License-Identifier: Apache-2.0
 //! The coupons of a compact image, borrowed from its bytes: coupons that ascend, as this library writes them, or few coupons in
 //! any order. One pass over them shows that they are distinct, without a table or a copy.
-ghost use Rattle.std.specs.Prelude.{◌≡◌, ◌*◌, ◌^◌, ◌-◌, ◌<◌, ◌≤◌, ◌↔◌, [], ◌∷◌, true, false, None, Some, nat_eq, IsTrue, IfSome, IfNone, OnSome, length, map};
+ghost use Rattle.std.specs.Prelude.{◌≡◌, ◌*◌, ◌^◌, ◌-◌, ◌<◌, ◌≤◌, ◌↔◌, [], ◌∷◌, true, false, None, Some, nat_eq, IsTrue, IfSome, IfNone, OnSome, length, map, slice_index};
 ghost use Rattle.std.specs.FinSet.{contains};
 ghost use Rattle.std.specs.Int.{w32, from_le_bytes};
 ghost use Rattle.std.specs.List.{list_any};
@@ -89,17 +89,14 @@ impl<'a> RawCoupons<'a> {
     pub(crate) fn ascend(&self) -> bool
         ensures { IsTrue result ↔ IsStrictlyIncreasing ((2 ^ 26 - 1) ∷ raw_coupons self.now.count self.now.bytes.now) }
     {
-        let mut rest = self.bytes;
-        let mut last = LAST_WITHOUT_VALUE;
-        for _ in 0..self.count {
-            let raw_coupon = first_of(rest);
-            if raw_coupon <= last {
-                return false;
-            }
-            last = raw_coupon;
-            rest = &rest[COUPON_SIZE_BYTES..];
+        if self.count == 0 {
+            return true;
         }
-        true
+        let elements = self.elements();
+        if raw_coupon_at(elements, 0) <= LAST_WITHOUT_VALUE {
+            return false;
+        }
+        ascends(elements)
     }
 
     /// Returns whether each coupon has a value above 0, and no two are equal. A raw coupon is compared with the ones before it
@@ -196,12 +193,25 @@ impl<'a> RawCoupons<'a> {
     }
 }
 
-/// Returns the raw coupon in the first four bytes.
-fn first_of(bytes: &[u8]) -> u32
-    requires { 4 ≤ length bytes.now }
-    ensures { result ≡ from_le_bytes w32 bytes.now }
+/// Returns whether each coupon, of four bytes, is less than the next one.
+// (without an exit from the loop, so that the compiler compares several at once)
+pub fn ascends(coupons: &[[u8; 4]]) -> bool
+    ensures { IsTrue result ↔ IsStrictlyIncreasing (map (from_le_bytes w32) coupons.now) }
 {
-    u32::from_le_bytes([bytes[0], bytes[1], bytes[2], bytes[3]])
+    let mut ascends = true;
+    for i in 1..coupons.len() {
+        ascends &= raw_coupon_at(coupons, i - 1) < raw_coupon_at(coupons, i);
+    }
+    ascends
+}
+
+/// Returns the raw coupon of an element.
+#[inline(always)]
+fn raw_coupon_at(coupons: &[[u8; 4]], at: usize) -> u32
+    requires { at < length coupons.now }
+    ensures { result ≡ slice_index (map (from_le_bytes w32) coupons.now) at }
+{
+    u32::from_le_bytes(coupons[at])
 }
 
 /// Raises the register of the coupon's slot modulo 2^`lg_k` to the coupon's value, if that is greater.

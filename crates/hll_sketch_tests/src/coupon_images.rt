@@ -5,7 +5,9 @@ ghost use Rattle.std.specs.Prelude.{◌≤◌};
 use crate::fixtures::{WIDTHS, filled, updatable_image, with_bytes_twice};
 use hll_base::error::Error;
 use hll_base::hll_type::HllType;
-use hll_sketch::{HllSketch, HllUnion, coupon_image_at, union_of_coupon_images};
+use hll_sketch::{
+    HllSketch, HllUnion, coupon_image_at, union_of_coupon_images, union_of_one_coupon_image,
+};
 use std::alloc::Global;
 use std::test::Fail;
 
@@ -78,6 +80,41 @@ fn unions_of_coupons(rt: HostRuntime) -> Result<(), Fail> {
                 let held = 0 < number && number < 6 && index < 6 && some && few;
                 let made = is_made(rt.alloc(), &left, &right)?;
                 assert!(rt; made || !held, "{one:?} {other:?} {more}");
+            }
+        }
+    }
+    Ok(())
+}
+
+/// Returns whether the union of one image is made from its bytes at a width, or `None` if what is made is not the image of its
+/// union.
+fn is_made_alone(alloc: Global, hll_type: HllType, image: &[u8]) -> Result<Option<bool>, Error> {
+    let Some(made) = union_of_one_coupon_image(alloc, 10, hll_type, image)? else {
+        return Ok(Some(false));
+    };
+    let mut union = HllUnion::new(alloc, 10)?;
+    union.update_with_image(image)?;
+    let right = union.into_sketch(hll_type)?.serialize()? == made;
+    Ok(if right { Some(true) } else { None })
+}
+
+/// Unions of one image. What is made is what a union gives, and it is made of coupons at the bound, in any order and in buckets.
+#[test]
+fn unions_of_one_image(rt: HostRuntime) -> Result<(), Fail> {
+    for source in SOURCES {
+        let (count, lg_k) = source;
+        let written = image_of(rt.alloc(), source, 0)?;
+        let held = Some(0 < count && lg_k == 10);
+        for hll_type in WIDTHS {
+            let made = is_made_alone(rt.alloc(), hll_type, &written)?;
+            assert_eq!(rt; made, held, "{source:?}");
+        }
+        if held == Some(true) {
+            let turned = descending(rt.alloc(), &written)?;
+            let placed = updatable_image(rt.alloc(), source)?;
+            for image in [&turned, &placed] {
+                let made = is_made_alone(rt.alloc(), HllType::Hll4, image)?;
+                assert_eq!(rt; made, held, "{source:?}");
             }
         }
     }

@@ -1,13 +1,15 @@
 -- SPDX-License-Identifier: Apache-2.0
 pub mod Distinct
 pub mod Emptiness
+pub mod FewExceptions
 pub mod Flattened
+pub mod GreatestBytes
 pub mod Joining
+pub mod MergedBytes
 pub mod MergedImages
 pub mod MergedRegisters
 pub mod MergedStates
 pub mod MergedTables
-pub mod Merging
 pub mod NibbleParts
 pub mod Numbers
 pub mod Parts

@@ -7,8 +7,7 @@ use Prim.Native.Nat.{min}
 use mir.Val.{bool_byte}
 use lib.Dec.{leb}
 use Rattle.hll_coupons.specs.Ascending.{without_first, IsLeastFirst}
-use Rattle.hll_coupons.proofs.Merging.{MergesRest}
-use Rattle.hll_state.proofs.Merging.{merges_next}
+use Rattle.hll_coupons.proofs.Merging.{MergesRest, merges_next}
 
 -- the first number of what is left of a list is taken
 passed : (xs : List ℕ) (i w d : ℕ) → i < length xs → d ≡ 1 → get_or xs i 0 ≡ w → drop (i + d) xs ≡ without_first w (drop i xs)

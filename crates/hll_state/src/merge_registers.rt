@@ -1,17 +1,24 @@
 // SPDX-License-Identifier: Apache-2.0
 //! Merges registers into a state, in place, at the smaller `lg_k`.
-ghost use Rattle.std.specs.Prelude.{◌≡◌, ◌+◌, ◌-◌, ◌^◌, ◌≤◌, ◌&&◌, if◌then◌else◌, nat_le, true, false, length, min, take};
+ghost use Rattle.std.specs.Prelude.{◌≡◌, ◌+◌, ◌-◌, ◌^◌, ◌≤◌, ◌&&◌, if◌then◌else◌, nat_le, true, false, ℕ, length, min, take, IfSome, IfNone};
+ghost use Rattle.std.specs.List.{list_all};
+ghost use Rattle.hll_arrays.specs.FewExceptions.{registers_with, HasExceptions};
 ghost use Rattle.hll_coupons.specs.Fold.{fold_to};
 ghost use Rattle.hll_registers.specs.State.{cleared_state};
+ghost use Rattle.hll_registers.specs.declared.estimate_state.EstimateState.{EstimateState};
 ghost use Rattle.hll_sketch.specs.Merging as merging;
-ghost use Rattle.hll_sketch.specs.Value.{pairs_of};
+ghost use Rattle.hll_sketch.specs.Value as content;
+ghost use Rattle.hll_sketch.specs.Value.{Sketch, in_registers, pairs_of};
 ghost use Rattle.hll_state.specs.Counter.{sketch_in, IsResolved};
+ghost use Rattle.hll_state.specs.CouponRun.{raws};
 ghost use Rattle.hll_state.specs.Header.{IsWithin, HasShortTail};
 ghost use Rattle.hll_state.specs.Merged.{HasSomeRegister, used_in};
 ghost use Rattle.hll_state.specs.Registers.{values};
+ghost use Rattle.hll_state.specs.declared.header.Held.TheVariants.{Registers};
 
 use crate::header::{Header, Held};
-use crate::registers::{fold, max_with, promote};
+use crate::registers::{fold, max_with, max_with_bytes, max_with_few_exceptions, promote};
+use hll_arrays::few_exceptions::FewExceptions;
 use hll_registers::estimate_state::EstimateState;
 use hll_registers::registers::{Registers, two_to};
 
@@ -42,6 +49,59 @@ impl Header {
         self.lg_k = lg_k;
         self.held = Held::Registers(state_after_merge(is_empty, bound, src));
         true
+    }
+
+    /// Takes the maximum with 2^`lg_k` bytes in one pass, if the state has registers at this `lg_k`, of which there are at least
+    /// 64. Returns the greatest byte, or `None` if nothing was done.
+    ///
+    /// The bytes are merged as registers are. They are not checked: if the greatest is above 63, so is a register of the state.
+    pub fn max_with_bytes(&mut self, body: &mut [[u8; 4]], lg_k: u8, bytes: &[u8]) -> Option<u8>
+        requires within { IsWithin self.old (length body.old) }
+        requires size { length bytes.now ≡ 2 ^ lg_k }
+        ensures within { IsWithin self.new (length body.old) }
+        ensures merged { IfSome result (λ _. (y : Sketch) (state : EstimateState) → y.lg_k ≡ lg_k → y.content ≡ content.registers bytes.now state → HasSomeRegister (sketch_in self.old body.old)
+            → sketch_in self.new body.new ≡ merging.merge self.old.lg_k (sketch_in self.old body.old) y) }
+        ensures registers { IfSome result (λ _. in_registers (sketch_in self.old body.old).content ≡ true) }
+        ensures greatest { IfSome result (λ greatest. (bound : ℕ) → list_all (λ b. nat_le b bound) bytes.now ≡ nat_le greatest bound) }
+        ensures none { IfNone result ((self.new ≡ self.old) × (body.new ≡ body.old)) }
+    {
+        if !self.has_registers_at(lg_k) {
+            return None;
+        }
+        let greatest = max_with_bytes(&mut body[..two_to(lg_k - 2)], bytes);
+        if greatest > 0 {
+            self.held = Held::Registers(EstimateState::CLEARED);
+        }
+        Some(greatest)
+    }
+
+    /// Takes the maximum with 4-bit registers that have few exceptions, if the state has registers at their `lg_k`, of which there
+    /// are at least 64. Returns whether it did. If not, nothing changes.
+    pub fn max_with_few_exceptions(&mut self, body: &mut [[u8; 4]], few: &FewExceptions<'_>) -> bool
+        requires within { IsWithin self.old (length body.old) }
+        requires parts { HasExceptions few.now.lg_k few.now.minimum few.now.nibbles.now (raws few.now.entries.now) }
+        ensures within { IsWithin self.new (length body.old) }
+        ensures merged { result ≡ true → (y : Sketch) (state : EstimateState) → y.lg_k ≡ few.now.lg_k → y.content ≡ content.registers (registers_with few.now.lg_k few.now.minimum few.now.nibbles.now (raws few.now.entries.now)) state
+            → HasSomeRegister (sketch_in self.old body.old) → sketch_in self.new body.new ≡ merging.merge self.old.lg_k (sketch_in self.old body.old) y }
+        ensures registers { result ≡ true → in_registers (sketch_in self.old body.old).content ≡ true }
+        ensures unchanged { result ≡ false → (self.new ≡ self.old) × (body.new ≡ body.old) }
+    {
+        if !self.has_registers_at(few.lg_k) {
+            return false;
+        }
+        max_with_few_exceptions(&mut body[..two_to(few.lg_k - 2)], few);
+        self.held = Held::Registers(EstimateState::CLEARED);
+        true
+    }
+
+    /// Returns whether the state has registers at this `lg_k`, and at least 64 of them.
+    fn has_registers_at(&self, lg_k: u8) -> bool
+        ensures { result ≡ true → (self.now.lg_k ≡ lg_k) × (6 ≤ lg_k) × ((state : EstimateState) × (self.now.held ≡ Registers state)) }
+    {
+        match self.held {
+            Held::Coupons(_) => false,
+            Held::Registers(_) => self.lg_k == lg_k && 6 <= lg_k,
+        }
     }
 
     /// Writes the registers that a resolved state folds to at an `lg_k` of at most its own, and returns whether there was room.

@@ -1,7 +1,9 @@
 // SPDX-License-Identifier: Apache-2.0
 //! Registers of a counter in borrowed elements: one byte each, four in an element, in ascending slots. No call allocates.
-ghost use Rattle.std.specs.Prelude.{◌≡◌, ◌*◌, ◌+◌, ◌-◌, ◌%◌, ◌^◌, ◌<◌, ◌≤◌, true, [], ◌∷◌, ◌++◌, ℕ, List, drop, length, max, nat_eq, not, slice_index, slice_set, take, unwrap_or, IfOk, IfErr};
+ghost use Rattle.std.specs.Prelude.{◌≡◌, ◌*◌, ◌+◌, ◌-◌, ◌%◌, ◌^◌, ◌<◌, ◌≤◌, true, [], ◌∷◌, ◌++◌, ℕ, List, drop, length, max, nat_eq, nat_le, not, slice_index, slice_set, take, unwrap_or, IfOk, IfErr};
 ghost use Rattle.std.specs.Cmp.Lexicographic.{pointwise};
+ghost use Rattle.std.specs.List.{list_all};
+ghost use Rattle.hll_arrays.specs.FewExceptions.{registers_with, HasExceptions};
 ghost use Rattle.hll_base.specs.Join.{join};
 ghost use Rattle.hll_base.specs.declared.error.Reason.TheVariants as reasons;
 ghost use Rattle.hll_coupons.specs.AuxMap.{entries_in, value_in, ExceptionMap, IsMap};
@@ -17,6 +19,7 @@ ghost use Rattle.hll_state.specs.Registers.{values};
 
 use crate::elements::move_to_end;
 use crate::run::CouponRun;
+use hll_arrays::few_exceptions::FewExceptions;
 use hll_base::bounds::{MAX_VALUE, SLOT_BITS};
 use hll_base::error::{Error, Reason};
 use hll_coupons::aux_map::AuxMapRefIter;
@@ -25,6 +28,7 @@ use hll_kernels::nibbles;
 use hll_registers::folds::max_folds;
 use hll_registers::nibble_parts::NibbleParts;
 use hll_registers::registers::{Registers, two_to};
+use std::simd::prelude::*;
 
 /// The number of elements that are copied to the stack at a time: 2^14 registers.
 const PART: usize = 4096;
@@ -232,6 +236,71 @@ fn max_with_32_bytes(elements: &mut [[u8; 4]], nibbles: &[u8], minimum: u8)
     let mut registers = read_64(elements);
     nibbles::max_with_nibbles(&mut registers, nibbles, minimum);
     write_64(elements, &registers);
+}
+
+/// Takes the maximum of registers and of the same number of 4-bit registers with few exceptions, at least 64: of their nibbles,
+/// and then of each exception.
+pub(crate) fn max_with_few_exceptions(elements: &mut [[u8; 4]], few: &FewExceptions<'_>)
+    requires least { 4 ≤ few.now.lg_k }
+    requires most { few.now.lg_k ≤ 21 }
+    requires size { length elements.old ≡ 2 ^ (few.now.lg_k - 2) }
+    requires many { 16 ≤ length elements.old }
+    requires parts { HasExceptions few.now.lg_k few.now.minimum few.now.nibbles.now (raws few.now.entries.now) }
+    ensures { values elements.new ≡ join (values elements.old) (registers_with few.now.lg_k few.now.minimum few.now.nibbles.now (raws few.now.entries.now)) }
+{
+    max_with_nibbles(elements, few.nibbles, few.minimum);
+    raise_all(elements, few.lg_k, few.entries);
+}
+
+/// Takes the maximum of registers and of bytes, 64 at a time, and returns the greatest byte. One pass over the bytes, which
+/// doesn't check them: a byte may be above 63.
+pub(crate) fn max_with_bytes(elements: &mut [[u8; 4]], bytes: &[u8]) -> u8
+    requires size { length bytes.now ≡ 4 * length elements.old }
+    requires sixteens { length elements.old % 16 ≡ 0 }
+    ensures joined { values elements.new ≡ join (values elements.old) bytes.now }
+    ensures greatest { (bound : ℕ) → list_all (λ b. nat_le b bound) bytes.now ≡ nat_le result bound }
+{
+    let mut greatest = u8x64::splat(0);
+    let mut at = 0;
+    while at < elements.len() {
+        let block = block_of(&bytes[4 * at..4 * at + 64]);
+        max_with_block(&mut elements[at..at + 16], &block);
+        greatest = greater_lanes(greatest, &block);
+        at += 16;
+    }
+    greatest_of(&greatest.to_array())
+}
+
+/// Takes the maximum of 64 registers and of 64 bytes. The compiler keeps them in lanes.
+#[inline(always)]
+fn max_with_block(elements: &mut [[u8; 4]], block: &[u8; 64])
+    requires { length elements.old ≡ 16 }
+    ensures { values elements.new ≡ join (values elements.old) block.now }
+{
+    let registers = u8x64::from_array(read_64(elements));
+    write_64(elements, &greater_lanes(registers, block).to_array());
+}
+
+/// Returns 64 bytes.
+#[inline(always)]
+fn block_of(bytes: &[u8]) -> [u8; 64]
+    requires { length bytes.now ≡ 64 }
+    ensures { result ≡ bytes.now }
+{
+    match bytes.as_array::<64>() {
+        Some(block) => *block,
+        None => [0; 64],
+    }
+}
+
+/// Returns the greater of each lane and the byte at the same index.
+#[inline(always)]
+fn greater_lanes(lanes: u8x64, bytes: &[u8; 64]) -> u8x64
+    requires { length lanes ≡ 64 }
+    ensures is { result ≡ join lanes bytes.now }
+    ensures len { length result ≡ 64 }
+{
+    lanes.simd_max(u8x64::from_array(*bytes))
 }
 
 /// Takes the maximum of registers and of the entries of a map of exceptions, one after the other.

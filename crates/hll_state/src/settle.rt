@@ -1,13 +1,14 @@
 // SPDX-License-Identifier: Apache-2.0
 //! Sorts the tail of a run into it, in place.
-ghost use Rattle.std.specs.Prelude.{◌≡◌, ◌↔◌, ◌+◌, ◌≤◌, IsTrue, length, take};
+ghost use Rattle.std.specs.Prelude.{◌≡◌, ◌+◌, ◌≤◌, length, take};
 ghost use Rattle.std.specs.List.Sorted.{IsStrictlyIncreasing};
 ghost use Rattle.hll_coupons.specs.Coupons.{IsAscending};
 ghost use Rattle.hll_coupons.specs.Pair.{set_of};
 ghost use Rattle.hll_state.specs.CouponRun.{raws};
 
-use crate::elements::{get, sort};
+use crate::elements::sort;
 use crate::merge::{dedup, merge};
+use hll_sketch::ascends;
 
 /// Sorts the first `used` coupons, of which the first `run` are meant to ascend. Returns the number of distinct coupons, which
 /// ascend in the first elements afterwards.
@@ -26,17 +27,6 @@ pub(crate) fn settle(coupons: &mut [[u8; 4]], run: usize, used: usize) -> usize
         return used;
     }
     settle_tail(coupons, run, used)
-}
-
-/// Returns whether each coupon is less than the next one. It takes one pass over all coupons, which the compiler can vectorise.
-pub(crate) fn ascends(coupons: &[[u8; 4]]) -> bool
-    ensures { IsTrue result ↔ IsStrictlyIncreasing (raws coupons.now) }
-{
-    let mut ascends = true;
-    for i in 1..coupons.len() {
-        ascends &= get(coupons, i - 1) < get(coupons, i);
-    }
-    ascends
 }
 
 /// Sorts a copy of the tail in the free elements and merges it with the run, which ascends. Sorts all coupons if the free

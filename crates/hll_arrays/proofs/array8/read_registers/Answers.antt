@@ -1,105 +1,46 @@
 -- SPDX-License-Identifier: Apache-2.0
-use Rattle.std.proofs.Common.{◌≡◌, ℕ, ◌+◌, ◌^◌, ◌<◌, ◌≤◌, length, take, drop, All, inl, inr, sym, ap, subst, ◌∙◌, arith}
+use Rattle.std.proofs.Common.{◌≡◌, ℕ, ◌^◌, ◌≤◌, false, List, length, drop, All, sym, ap, subst, ◌∙◌, arith}
 use Rattle.std.specs.Prelude.{nat_le}
 use Rattle.std.specs.List.{list_all}
 use Rattle.std.proofs.lemmas.Bool.{true≢false}
-use Rattle.std.proofs.lemmas.List.{length-drop}
-use Rattle.hll_registers.specs.Payload.{num_at_cur_min, exception_count, state_at, HasPlainCounts, IsHll8Payload, Hll8Fault, FirstHll8Fault}
+use Rattle.std.proofs.lemmas.List.{length-drop, length-take-le}
+use Rattle.hll_registers.specs.Payload.{HasPlainCounts, Hll8Fault, FirstHll8Fault}
 use Rattle.hll_registers.specs.Payload as payload
-use Rattle.hll_base.proofs.Errors.{IfErr-passed}
-use Rattle.hll_arrays.proofs.ReadingRegisters.{small-from, small-to, is_hll8_payload, slice_front}
+use Rattle.hll_arrays.proofs.ReadingRegisters.{small-from, small-to, is_hll8_payload}
 use Rattle.hll_arrays.proofs.array8.read_registers.Goals as goal
 
-pub returns-in_err-preamble-clause-err : goal.returns-in_err-preamble-clause-err
-returns-in_err-preamble-clause-err c =
-    let e = c.in_err-preamble.ensures.err in
-    IfErr-passed (Hll8Fault c.args.lg_config_k c.args.cursor) c.from_residual.result c.in_err-preamble.field-0.0 c.from_residual.ensures.1
-    ((subst (Hll8Fault c.args.lg_config_k c.args.cursor) (sym e.0) (payload.Hll8Fault.no_counts e.1)))
+-- a register is above 63
+too_great : (R Q : List ℕ) → R ≡ Q → list_all (λ v. nat_le v 63) R ≡ false → All (λ v. v ≤ 63) Q → ⊥
+too_great R Q are above small = true≢false (sym (small-to Q small) ∙ sym (ap (list_all (λ v. nat_le v 63)) are) ∙ above)
 
-pub returns-in_err-preamble-clause-order : goal.returns-in_err-preamble-clause-order
-returns-in_err-preamble-clause-order c =
-    let e = c.in_err-preamble.ensures.err in
-    IfErr-passed (FirstHll8Fault c.args.lg_config_k c.args.cursor) c.from_residual.result c.in_err-preamble.field-0.0 c.from_residual.ensures.1
-    ((subst (FirstHll8Fault c.args.lg_config_k c.args.cursor) (sym e.0) (payload.FirstHll8Fault.no_counts e.1)))
-
-pub returns-then-preamble-size-clause-err : goal.returns-then-preamble-size-clause-err
-returns-then-preamble-size-clause-err c =
-    let read = c.in_ok-preamble.ensures.ok in
-    (subst (Hll8Fault c.args.lg_config_k c.args.cursor) (sym c.new.ensures) (elim c.then-preamble-size.either [
-      | inl many ↦ payload.Hll8Fault.zero_count read.0 (let above : 2 ^ c.args.lg_config_k < num_at_cur_min c.args.cursor = omega (arith, many, c.two_to-size.ensures, read.2) in above)
-      | inr some ↦ payload.Hll8Fault.exceptions_counted read.0 (λ none. some.1 (read.3 ∙ none))
-    ]))
-
-pub returns-then-preamble-size-clause-order : goal.returns-then-preamble-size-clause-order
-returns-then-preamble-size-clause-order c =
-    let read = c.in_ok-preamble.ensures.ok in
-    (subst (FirstHll8Fault c.args.lg_config_k c.args.cursor) (sym c.new.ensures) (elim c.then-preamble-size.either [
-      | inl many ↦ payload.FirstHll8Fault.zero_count read.0 (let above : 2 ^ c.args.lg_config_k < num_at_cur_min c.args.cursor = omega (arith, many, c.two_to-size.ensures, read.2) in above)
-      | inr some ↦ payload.FirstHll8Fault.exceptions_counted read.0 (λ none. some.1 (read.3 ∙ none))
-    ]))
-
-pub returns-in_default-clause-err : goal.returns-in_default-clause-err
-returns-in_default-clause-err c =
-    let read = c.in_ok-preamble.ensures.ok in
-    let left : length c.remaining.result.now ≡ length (drop 32 c.args.cursor) = ap length (c.remaining.ensures ∙ read.4) in
-    let short : length c.remaining.result.now < c.two_to-size.result = elim c.in_default.ensures.lookup.0 [ inl below ↦ absurd (omega (arith, below)) | inr l ↦ l ] in
-    (subst (Hll8Fault c.args.lg_config_k c.args.cursor) (sym c.new-in_default.ensures)
-    (payload.Hll8Fault.short (omega (arith, short, left, length-drop 32 c.args.cursor, c.two_to-size.ensures, read.0))))
-
-pub returns-in_default-clause-order : goal.returns-in_default-clause-order
-returns-in_default-clause-order c =
-    let k : ℕ = c.args.lg_config_k in
-    let read = c.in_ok-preamble.ensures.ok in
-    let left : length c.remaining.result.now ≡ length (drop 32 c.args.cursor) = ap length (c.remaining.ensures ∙ read.4) in
-    let short : length c.remaining.result.now < c.two_to-size.result = elim c.in_default.ensures.lookup.0 [ inl below ↦ absurd (omega (arith, below)) | inr l ↦ l ] in
-    let counts : HasPlainCounts k c.args.cursor = record { whole = read.0; zero_count = omega (arith, c.if-preamble-size.false, c.two_to-size.ensures, read.2); no_exceptions = sym read.3 ∙ c.if-preamble-ne0.false } in
-    (subst (FirstHll8Fault k c.args.cursor) (sym c.new-in_default.ensures)
-    (payload.FirstHll8Fault.short counts (omega (arith, short, left, length-drop 32 c.args.cursor, c.two_to-size.ensures, read.0))))
+pub returns-then-not-are_registers-clause-err : goal.returns-then-not-are_registers-clause-err
+returns-then-not-are_registers-clause-err c =
+    let read = c.in_ok-registers.ensures.ok in
+    subst (Hll8Fault c.args.lg_config_k c.args.cursor) (sym c.new.ensures) (payload.Hll8Fault.register read.1 (too_great _ _ read.2 (sym c.are_registers.ensures ∙ c.if-not-are_registers.true)))
 
 pub returns-then-not-are_registers-clause-order : goal.returns-then-not-are_registers-clause-order
 returns-then-not-are_registers-clause-order c =
-    let k : ℕ = c.args.lg_config_k in
-    let read = c.in_ok-preamble.ensures.ok in
-    let found = c.in-Some.ensures.lookup.0 in
-    let rest : c.remaining.result.now ≡ drop 32 c.args.cursor = c.remaining.ensures ∙ read.4 in
-    let are : c.in-Some.registers.now ≡ take (2 ^ k) (drop 32 c.args.cursor) = found.2 ∙ slice_front c.two_to-size.result (2 ^ k) c.remaining.result.now (drop 32 c.args.cursor) c.two_to-size.ensures rest in
-    let there : 32 + 2 ^ k ≤ length c.args.cursor = omega (arith, found.1, ap length rest, length-drop 32 c.args.cursor, c.two_to-size.ensures, read.0) in
-    let counts : HasPlainCounts k c.args.cursor = record { whole = read.0; zero_count = omega (arith, c.if-preamble-size.false, c.two_to-size.ensures, read.2); no_exceptions = sym read.3 ∙ c.if-preamble-ne0.false } in
-    (subst (FirstHll8Fault k c.args.cursor) (sym c.new-then-not-are_registers.ensures)
-    (payload.FirstHll8Fault.register counts there (λ small. true≢false (sym (small-to _ small) ∙ sym (ap (list_all (λ v. nat_le v 63)) are) ∙ sym c.are_registers.ensures ∙ c.if-not-are_registers.true))))
-
--- the registers that were found
-pub returns-then-not-are_registers-clause-err : goal.returns-then-not-are_registers-clause-err
-returns-then-not-are_registers-clause-err c =
-    let read = c.in_ok-preamble.ensures.ok in
-    let found = c.in-Some.ensures.lookup.0 in
-    let rest : c.remaining.result.now ≡ drop 32 c.args.cursor = c.remaining.ensures ∙ read.4 in
-    let are : c.in-Some.registers.now ≡ take (2 ^ c.args.lg_config_k) (drop 32 c.args.cursor) = found.2 ∙ slice_front c.two_to-size.result (2 ^ c.args.lg_config_k) c.remaining.result.now (drop 32 c.args.cursor) c.two_to-size.ensures rest in
-    let there : 32 + 2 ^ c.args.lg_config_k ≤ length c.args.cursor = omega (arith, found.1, ap length rest, length-drop 32 c.args.cursor, c.two_to-size.ensures, read.0) in
-    (subst (Hll8Fault c.args.lg_config_k c.args.cursor) (sym c.new-then-not-are_registers.ensures)
-    (payload.Hll8Fault.register there (λ small. true≢false (sym (small-to _ small) ∙ sym (ap (list_all (λ v. nat_le v 63)) are) ∙ sym c.are_registers.ensures ∙ c.if-not-are_registers.true))))
+    let read = c.in_ok-registers.ensures.ok in
+    subst (FirstHll8Fault c.args.lg_config_k c.args.cursor) (sym c.new.ensures) (payload.FirstHll8Fault.register read.0 read.1 (too_great _ _ read.2 (sym c.are_registers.ensures ∙ c.if-not-are_registers.true)))
 
 pub returns-clause-ok : goal.returns-clause-ok
 returns-clause-ok c =
     let k : ℕ = c.args.lg_config_k in
-    let read = c.in_ok-preamble.ensures.ok in
-    let found = c.in-Some.ensures.lookup.0 in
-    let rest : c.remaining.result.now ≡ drop 32 c.args.cursor = c.remaining.ensures ∙ read.4 in
-    let are : c.in-Some.registers.now ≡ take (2 ^ k) (drop 32 c.args.cursor) = found.2 ∙ slice_front c.two_to-size.result (2 ^ c.args.lg_config_k) c.remaining.result.now (drop 32 c.args.cursor) c.two_to-size.ensures rest in
-    let there : 32 + 2 ^ k ≤ length c.args.cursor = omega (arith, found.1, ap length rest, length-drop 32 c.args.cursor, c.two_to-size.ensures, read.0) in
-    let low : num_at_cur_min c.args.cursor ≤ 2 ^ k = omega (arith, c.if-preamble-size.false, c.two_to-size.ensures, read.2) in
-    let none : exception_count c.args.cursor ≡ 0 = sym read.3 ∙ c.if-preamble-ne0.false in (
-      is_hll8_payload k c.args.cursor there low none (subst (All (λ v. v ≤ 63)) are (small-from c.in-Some.registers.now (sym c.are_registers.ensures ∙ c.if-not-are_registers.false))),
-      are,
-      read.1,
+    let read = c.in_ok-registers.ensures.ok in
+    let counts : HasPlainCounts k c.args.cursor = read.0 in (
+      is_hll8_payload k c.args.cursor read.1 counts.zero_count counts.no_exceptions
+          (subst (All (λ v. v ≤ 63)) read.2 (small-from c.in_ok-registers.registers.now (sym c.are_registers.ensures ∙ c.if-not-are_registers.false))),
+      read.2,
+      read.3,
     )
 
 pub returns-clause-legal : goal.returns-clause-legal
 returns-clause-legal c =
-    let found = c.in-Some.ensures.lookup.0 in (
+    let k : ℕ = c.args.lg_config_k in
+    let read = c.in_ok-registers.ensures.ok in (
       record {
-        size = (let n : length c.in-Some.registers.now ≡ c.two_to-size.result = omega (arith, found.3) in n) ∙ c.two_to-size.ensures;
-        small = small-from c.in-Some.registers.now (sym c.are_registers.ensures ∙ c.if-not-are_registers.false);
+        size = ap length read.2 ∙ length-take-le (2 ^ k) (drop 32 c.args.cursor) (omega (arith, read.1, length-drop 32 c.args.cursor));
+        small = small-from c.in_ok-registers.registers.now (sym c.are_registers.ensures ∙ c.if-not-are_registers.false);
       },
-      c.in_ok-preamble.ensures.legal,
+      c.in_ok-registers.ensures.legal,
     )

@@ -7,11 +7,12 @@ use Rattle.hll_coupons.specs.Pair.{pair, set_of, slot_of}
 use Rattle.hll_sketch.specs.Adding.{add}
 use Rattle.hll_sketch.specs.CouponImages.{IsImageWith}
 use Rattle.hll_sketch.specs.Layout.{sketch_of}
+use Rattle.hll_sketch.specs.RegisterImages.{IsFilledImageWith}
 use Rattle.hll_c.specs.Answers.{IsImageOf, WithFields, RefusesWith, image_refused}
 use Rattle.hll_c.specs.Calls.{AreOfCoupon, HasCoupon, IsMadeOf}
 use Rattle.hll_c.proofs.Answers.{made_with_fields}
 use Rattle.hll_c.proofs.Batches.{not_so}
-use Rattle.hll_c.proofs.Images.{coupon_in_bytes, refuses_argument, refuses_memory}
+use Rattle.hll_c.proofs.Images.{coupon_in_bytes, coupon_in_registers, refuses_argument, refuses_memory}
 use Rattle.hll_c.proofs.image.with_coupon.Goals as goal
 
 -- the slot is below 2^26, so it is the slot of the coupon
@@ -33,6 +34,17 @@ pub returns-in-Some-clause-ok : goal.returns-in-Some-clause-ok
 returns-in-Some-clause-ok c =
     coupon_in_bytes c.args.slot c.args.value c.raw.result c.args.image.now c.in-Some.written.items (c.are_of_coupon.ensures.0 c.if-not-are_of_coupon.false) (c.raw.ensures ∙ packed c.args.slot c.args.value c.pack-coupon.result (c.are_of_coupon.ensures.0 c.if-not-are_of_coupon.false) c.pack-coupon.ensures)
     (subst (λ o. IfSome o (λ written. IsImageWith (c.raw.result ∷ []) c.args.image.now written.items)) c.in-Some.is c.in_ok-written.ensures.some)
+
+pub returns-in_err-written-2-clause-err : goal.returns-in_err-written-2-clause-err
+returns-in_err-written-2-clause-err c =
+    let e = c.in_err-written-2 in
+    IfErr-passed (RefusesWith (AreOfCoupon c.args.slot c.args.value) c.args.image.now) c.from_residual-in_err-written-2.result e.field-0.0 c.from_residual-in_err-written-2.ensures.1
+    (image_refused (c.are_of_coupon.ensures.0 c.if-not-are_of_coupon.false) (refuses_memory c.args.image.now e.ensures.read.0 e.field-0.0 e.ensures.read.1 e.ensures.err))
+
+pub returns-in-Some-2-clause-ok : goal.returns-in-Some-2-clause-ok
+returns-in-Some-2-clause-ok c =
+    coupon_in_registers c.args.slot c.args.value c.raw-2.result c.args.image.now c.in-Some-2.written.items (c.are_of_coupon.ensures.0 c.if-not-are_of_coupon.false) (c.raw-2.ensures ∙ packed c.args.slot c.args.value c.pack-coupon.result (c.are_of_coupon.ensures.0 c.if-not-are_of_coupon.false) c.pack-coupon.ensures)
+    (subst (λ o. IfSome o (λ written. IsFilledImageWith (c.raw-2.result ∷ []) c.args.image.now written.items)) c.in-Some-2.is c.in_ok-written-2.ensures.some)
 
 pub returns-in_err-sketch_with_coupon-in-None-clause-err : goal.returns-in_err-sketch_with_coupon-in-None-clause-err
 returns-in_err-sketch_with_coupon-in-None-clause-err c =

@@ -1,17 +1,16 @@
 -- SPDX-License-Identifier: Apache-2.0
-use Rattle.std.proofs.Common.{◌≡◌, ℕ, List, [], ◌∷◌, length, refl, sym, ap, subst, ◌∙◌}
+use Rattle.std.proofs.Common.{ℕ, List, length, refl, ap, subst, ◌∙◌}
 use Rattle.std.specs.Option.{IfSome}
 use Rattle.std.proofs.lemmas.Result.{IfOk-weaker, IfErr-weaker}
 use Rattle.hll_base.proofs.Errors.{IfErr-passed}
-use Rattle.hll_sketch.specs.CouponImages.{IsImageOfUnion, AreBothRead}
 use Rattle.hll_sketch.specs.Merging.{empty_union}
 use Rattle.hll_sketch.specs.Value.{Sketch}
 use Rattle.hll_c.specs.Answers.{IsImageOf, WithFields, RefusesImages}
-use Rattle.hll_c.specs.Calls.{AreUnionArguments, IsUnionOf}
-use Rattle.hll_c.specs.Steps.{union_so_far}
+use Rattle.hll_c.specs.Calls.{bits_of, AreUnionArguments, IsUnionOf}
+use Rattle.hll_c.specs.Steps.{union_so_far, IsUnionInBytes}
 use Rattle.hll_c.proofs.Answers.{made_with_fields}
-use Rattle.hll_c.proofs.GrowingUnions.{is_union, two_images, refuses_images}
-use Rattle.hll_c.proofs.Images.{asked_after, refuses_arguments, refuses_more_memory, union_in_bytes, refuses_union_in_bytes}
+use Rattle.hll_c.proofs.GrowingUnions.{is_union, refuses_images}
+use Rattle.hll_c.proofs.Images.{asked_after, refuses_arguments, refuses_more_memory}
 use Rattle.hll_c.proofs.union.union_of.Goals as goal
 
 pub returns-in_err-lg_max_k-clause-err : goal.returns-in_err-lg_max_k-clause-err
@@ -35,29 +34,24 @@ returns-in_err-hll_type-clause-err g c =
 pub returns-in_err-image-clause-err : goal.returns-in_err-image-clause-err
 returns-in_err-image-clause-err g c =
     let all : List (List ℕ) = g.I.Images.images c.args.images.now in
-    let left : List ℕ = c.image-3.result.now in
-    let right : List ℕ = c.image-4.result.now in
-    let f : ℕ = c.args.failed.now in
-    let e = c.in_err-image in
     let Are = AreUnionArguments c.args.lg_max_k c.args.width in
-    let is : left ∷ right ∷ [] ≡ all = two_images all left right (sym c.count.ensures ∙ c.if-count-eq2.true) c.image-3.ensures c.image-4.ensures in
-    IfErr-passed (RefusesImages Are all f _) c.from_residual-in_err-image.result e.field-0.0 c.from_residual-in_err-image.ensures.1
-    (subst (λ xs. RefusesImages Are xs f f e.field-0.0) is
-    (refuses_union_in_bytes c.args.lg_max_k c.args.width c.in_ok-hll_type.hll_type c.in_ok-hll_type.ensures.ok left right f e.field-0.0
-    (subst (λ k. AreBothRead k left right) c.in_ok-lg_max_k.ensures.ok.0 e.ensures.read) e.ensures.err))
-
-pub returns-clause-ok : goal.returns-clause-ok
-returns-clause-ok g c =
-    let all : List (List ℕ) = g.I.Images.images c.args.images.now in
-    let left : List ℕ = c.image-3.result.now in
-    let right : List ℕ = c.image-4.result.now in
-    let items : List ℕ = c.in-Some.image.items in
+    let are : Are = record { lg_max_k_is = c.in_ok-lg_max_k.ensures.ok.1; width_is = record { width = c.in_ok-hll_type.hll_type; is = c.in_ok-hll_type.ensures.ok } } in
     let f : ℕ = c.args.failed.now in
-    let is : left ∷ right ∷ [] ≡ all = two_images all left right (sym c.count.ensures ∙ c.if-count-eq2.true) c.image-3.ensures c.image-4.ensures in
-    subst (λ xs. IsImageOf (WithFields (IsUnionOf c.args.lg_max_k c.args.width xs f f)) items) is
-    (union_in_bytes c.args.lg_max_k c.args.width c.in_ok-hll_type.hll_type c.in_ok-hll_type.ensures.ok left right items f
-    (subst (λ k. IsImageOfUnion k c.in_ok-hll_type.hll_type left right items) c.in_ok-lg_max_k.ensures.ok.0
-    (subst (λ o. IfSome o (λ image. IsImageOfUnion c.in_ok-lg_max_k.lg_max_k c.in_ok-hll_type.hll_type left right image.items)) c.in-Some.is c.in_ok-image.ensures.some)))
+    let refused = c.in_err-image in
+    let read = refused.ensures.err.1 in
+    IfErr-passed (RefusesImages Are all f f) c.from_residual-in_err-image.result refused.field-0.0 c.from_residual-in_err-image.ensures.1
+    (refuses_more_memory Are all f f refused.field-0.0 (length all) refused.ensures.err.0 are (asked_after all read.0 read.1) refl)
+
+pub returns-in-Some-clause-ok : goal.returns-in-Some-clause-ok
+returns-in-Some-clause-ok g c =
+    let all : List (List ℕ) = g.I.Images.images c.args.images.now in
+    let items : List ℕ = c.in-Some.image.items in
+    let k : ℕ = c.in_ok-lg_max_k.lg_max_k in
+    let bits : ℕ = bits_of c.in_ok-hll_type.hll_type in
+    let f : ℕ = c.args.failed.now in
+    let made : IsUnionInBytes k bits all items = subst (λ o. IfSome o (λ image. IsUnionInBytes k bits all image.items)) c.in-Some.is c.in_ok-image.ensures.some in
+    subst (λ n. IsImageOf (WithFields (IsUnionOf c.args.lg_max_k n all f f)) items) c.in_ok-hll_type.ensures.ok
+    (subst (λ n. IsImageOf (WithFields (IsUnionOf n bits all f f)) items) c.in_ok-lg_max_k.ensures.ok.0 (made f))
 
 pub returns-in_err-merge_in_all-clause-err : goal.returns-in_err-merge_in_all-clause-err
 returns-in_err-merge_in_all-clause-err g c =
@@ -68,8 +62,8 @@ returns-in_err-merge_in_all-clause-err g c =
     IfErr-passed (RefusesImages Are all c.args.failed.now c.merge_in_all.new.failed) c.from_residual-in_err-merge_in_all.result e.field-0.0 c.from_residual-in_err-merge_in_all.ensures.1
     (refuses_images Are all c.args.failed.now c.merge_in_all.new.failed e.field-0.0 are e.ensures.err)
 
-pub returns-2-clause-ok : goal.returns-2-clause-ok
-returns-2-clause-ok g c =
+pub returns-clause-ok : goal.returns-clause-ok
+returns-clause-ok g c =
     let k : ℕ = c.args.lg_max_k in
     let all : List (List ℕ) = g.I.Images.images c.args.images.now in
     let Are = AreUnionArguments k c.args.width in
@@ -84,8 +78,8 @@ returns-2-clause-ok g c =
     (c.new-union.ensures.bound ∙ same) (c.new-union.ensures.empty ∙ ap empty_union same) taken.0 refl taken.1) is)
     c.into_image.ensures.ok
 
-pub returns-2-clause-err : goal.returns-2-clause-err
-returns-2-clause-err g c =
+pub returns-clause-err : goal.returns-clause-err
+returns-clause-err g c =
     let all : List (List ℕ) = g.I.Images.images c.args.images.now in
     let Are = AreUnionArguments c.args.lg_max_k c.args.width in
     let are : Are = record { lg_max_k_is = c.in_ok-lg_max_k.ensures.ok.1; width_is = record { width = c.in_ok-hll_type.hll_type; is = c.in_ok-hll_type.ensures.ok } } in

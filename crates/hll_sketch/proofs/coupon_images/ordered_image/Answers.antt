@@ -1,10 +1,11 @@
 -- SPDX-License-Identifier: Apache-2.0
-use Rattle.std.proofs.Common.{◌≡◌, ◌++◌, ℕ, List, Some, None, sym, ap, ◌∙◌, inl, inr}
+use Rattle.std.proofs.Common.{◌≡◌, ◌<◌, ◌++◌, ℕ, List, Some, None, sym, ap, ◌∙◌, inl, inr, arith}
+use Rattle.std.proofs.lemmas.List.Elements.{All-from_get_or}
 use Rattle.hll_base.specs.declared.error.Reason.{Reason}
 use Rattle.hll_sketch.specs.Checks.{first_failing, header_checks, checks_after}
 use Rattle.hll_sketch.specs.CouponImages.{HasEvidentCoupons}
 use Rattle.hll_sketch.specs.declared.header.Header.{Header}
-use Rattle.hll_sketch.proofs.CouponImages.{in_order, width_in_header}
+use Rattle.hll_sketch.proofs.CouponImages.{in_order, is_ordered, width_in_header}
 use Rattle.hll_sketch.proofs.FirstFailing.{failing_before}
 use Rattle.hll_sketch.proofs.coupon_images.ordered_image.Goals as goal
 
@@ -12,6 +13,10 @@ pub returns-clause-some : goal.returns-clause-some
 returns-clause-some c =
     let says = c.in-Ok.ensures.ok.2 in
     in_order c.args.bytes.now _ c.in_ok-raw_coupons.ensures.some c.in-Ok.header.lg_k c.in-Ok.header.lg_arr (ap (λ (h : Header). h.lg_k) says) (ap (λ (h : Header). h.lg_arr) says) c.in_ok-raw_coupons.ensures.ascend
+
+pub returns-clause-ordered : goal.returns-clause-ordered
+returns-clause-ordered c =
+    is_ordered _ c.args.bytes.now (All-from_get_or (λ n. n < 256) c.args.bytes.now 0 (λ i within. omega (arith, c.type_inv.bytes i))) (returns-clause-some c)
 
 -- a header that fails a check is not that of an image
 never : (b : List ℕ) (e : Reason) → first_failing (header_checks b) ≡ Some e → HasEvidentCoupons b → ⊥

@@ -8,9 +8,8 @@ use Rattle.std.specs.FinSet.{union}
 use Rattle.std.proofs.lemmas.List.{drop-map, drop_all, length-drop, take_rest}
 use Rattle.hll_coupons.specs.Coupons.{IsAscending}
 use Rattle.hll_coupons.specs.Pair.{set_of}
-use Rattle.hll_coupons.proofs.Merging.{MergesRest}
+use Rattle.hll_coupons.proofs.Merging.{MergesRest, merges_left, merges_right}
 use Rattle.hll_state.specs.CouponRun.{raws}
-use Rattle.hll_state.proofs.Merging.{merges_left, merges_right}
 use Rattle.hll_state.proofs.Steps.{step, moves}
 use Rattle.hll_state.proofs.Raws.{length-raws}
 use Rattle.hll_state.proofs.merge.merge.Goals as goal

@@ -1,7 +1,7 @@
 -- SPDX-License-Identifier: Apache-2.0
 use Rattle.std.proofs.Common.{◌/◌, length, map, take, ap, ◌∙◌, arith}
 use Rattle.std.specs.Int.{w32, from_le_bytes}
-use Rattle.hll_sketch.proofs.Elements.{raws-chunks}
+use Rattle.hll_arrays.proofs.Elements.{raws-chunks}
 use Rattle.hll_sketch.proofs.raw_coupons.RawCoupons.elements.Goals as goal
 
 pub returns : goal.returns

@@ -1,5 +1,5 @@
 -- SPDX-License-Identifier: Apache-2.0
-use Rattle.std.proofs.Common.{All, ap, map, subst, sym, ◌∙◌, take, drop, ◌++◌}
+use Rattle.std.proofs.Common.{All, map, subst, ◌∙◌, take, drop}
 use Rattle.std.proofs.lemmas.List.{take-append-drop}
 use Rattle.std.proofs.lemmas.List.Elements.{All-append}
 use Rattle.hll_sketch.specs.Layout.{sketch_of}
