@@ -18,6 +18,7 @@ enum { IMAGES = 16, MOST = 14, TURNS = 300, FEW = 300, SET_HEADER = 12, UPDATABL
 struct library {
     hll_status (*image_new)(unsigned, unsigned, uint8_t *, size_t, size_t *);
     hll_status (*image_add)(const uint8_t *, size_t, const uint8_t *, size_t, const size_t *, size_t, uint8_t *, size_t, size_t *);
+    hll_status (*image_convert)(const uint8_t *, size_t, unsigned, uint8_t *, size_t, size_t *);
     hll_status (*image_merge)(unsigned, unsigned, const uint8_t *, size_t, const uint8_t *, size_t, uint8_t *, size_t, size_t *, size_t *);
     hll_status (*unionv)(unsigned, unsigned, const hll_bytes *, size_t, uint8_t *, size_t, size_t *, size_t *);
     hll_status (*registers_merge)(uint8_t *, size_t, const uint8_t *, size_t, uint8_t *);
@@ -63,6 +64,7 @@ static void load(struct library *to, const char *path)
     }
     find(handle, "hll_image_new", &to->image_new);
     find(handle, "hll_image_add", &to->image_add);
+    find(handle, "hll_image_convert", &to->image_convert);
     find(handle, "hll_image_merge", &to->image_merge);
     find(handle, "hll_images_unionv", &to->unionv);
     find(handle, "hll_registers_merge", &to->registers_merge);
@@ -83,7 +85,7 @@ static uint8_t images[IMAGES][HLL_IMAGE_MAX(MOST)], out[HLL_IMAGE_MAX(MOST)];
 static size_t lens[IMAGES], size, failed, count;
 static hll_bytes parts[IMAGES];
 static unsigned k, width;
-static uint64_t numbers[4096], next;
+static uint64_t numbers[4096], next, raising[IMAGES];
 static size_t ends[4096];
 static uint32_t coupons[4096];
 
@@ -270,6 +272,45 @@ static void run_estimate_of_image(void)
         need(lib->estimate_of_image(images[i], lens[i], &estimation));
 }
 
+static void run_convert(void)
+{
+    int i;
+    for (i = 0; i < IMAGES; i++)
+        need(lib->image_convert(images[i], lens[i], 0, out, sizeof out, &size));
+}
+
+/* A value that each image has. */
+static void run_image_held(void)
+{
+    int i;
+    for (i = 0; i < IMAGES; i++) {
+        uint64_t value = 1 + (uint64_t)i * 1000003;
+        need(lib->image_add(images[i], lens[i], (uint8_t *)&value, 8, ends, 1, out, sizeof out, &size));
+    }
+}
+
+static int changes_register(int i, uint64_t value)
+{
+    need(lib->image_add(images[i], lens[i], (uint8_t *)&value, 8, ends, 1, out, sizeof out, &size));
+    return size != lens[i] || memcmp(out, images[i], size) != 0;
+}
+
+/* A value for each image that changes a register of it. */
+static void find_raising(void)
+{
+    int i;
+    for (i = 0; i < IMAGES; i++)
+        for (raising[i] = (uint64_t)1 << 40; !changes_register(i, raising[i]); raising[i]++)
+            ;
+}
+
+static void run_image_raised(void)
+{
+    int i;
+    for (i = 0; i < IMAGES; i++)
+        need(lib->image_add(images[i], lens[i], (uint8_t *)&raising[i], 8, ends, 1, out, sizeof out, &size));
+}
+
 /* ---- rows ---- */
 
 struct call {
@@ -291,6 +332,9 @@ static const struct call of_registers[] = {
     {"image, 4 bits", run_image_4},
     {"estimate", run_estimate},
     {"estimate of an image", run_estimate_of_image},
+    {"convert an image to its own width", run_convert},
+    {"add a value that an image has", run_image_held},
+    {"add a value that changes an image", run_image_raised},
     {NULL, NULL},
 };
 static const struct call of_coupons[] = {
@@ -376,6 +420,7 @@ static void print_registers(unsigned lg_k, char **words)
     int w;
     for (w = 0; w < 3; w++) {
         make(lg_k, widths[w], (size_t)5 << lg_k);
+        find_raising();
         sprintf(what, "%u bits", widths[w]);
         print_rows(what, of_registers, words);
     }

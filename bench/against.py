@@ -12,6 +12,10 @@ Targets, as ratios to the library of 03af997b: no row above 1.02, within what th
 
     join, 4 bits, lg_k 12; 14                             0.85; 0.75
     estimate of an image of 20 coupons; of one            0.45; 0.28
+    estimate of an image of registers                     0.75
+    convert an image of 8 bits to its own width           0.35
+    add a value that an image has, 8; 6; 4 bits           0.3; 0.5; 0.5
+    add a value that changes an image, 8; 6; 4 bits       0.45; 0.6; 0.6
 
 Targets, in nanoseconds above the time of hll_registers_merge of the same image:
 

@@ -407,17 +407,27 @@ def made_wasm(rtlib):
         return (room / "hll.wasm").read_bytes()
 
 
+def is_wasm_fresh(sources):
+    """Whether hll.wasm is made of these sources."""
+    old = committed()
+    return old is not None and old.sources == sources and asked("wasm") == "fresh"
+
+
+def want_binaryen(sources):
+    """Raises Unknown if hll.wasm has to be made of these sources, and binaryen is not here."""
+    if not is_wasm_fresh(sources) and not binaryen():
+        raise Unknown("wasm-opt, of binaryen, is not here, and prebuilt/%s has to be made again" % WASM)
+
+
 def put_wasm(rtlib, verdict, texts):
     """Adds hll.wasm to what was made. Without the version of binaryen that made it, it stays as it is, if it is made of the same
     sources."""
-    old = committed()
-    line, same = wasm_line(), old is not None and old.sources == verdict.sources and asked("wasm") == "fresh"
-    if same and line != old.wasm:
+    old, line = committed(), wasm_line()
+    if is_wasm_fresh(verdict.sources) and line != old.wasm:
         print("not compared: prebuilt/%s was made by %s, and here is %s" % (WASM, old.wasm.rpartition("; ")[2], binaryen() or "no wasm-opt (binaryen)"))
         line, texts[WASM] = old.wasm, (PREBUILT / WASM).read_bytes()
-    elif not binaryen():
-        raise Unknown("wasm-opt, of binaryen, is not here, and prebuilt/%s has to be made again" % WASM)
     else:
+        want_binaryen(verdict.sources)
         texts[WASM] = made_wasm(rtlib)
     verdict.wasm, verdict.files[WASM] = line, sum_of(texts[WASM])
 
@@ -445,10 +455,13 @@ def link_again():
 def make_all():
     """Makes every file. Returns a verdict, the files' bytes by their paths, and those of the texts for other systems."""
     rtlib = toolchain()
+    want_binaryen(asked("sum"))
     at_once = next((count for count in (len(TEXTS), 3, 2) if rtlib.fits(*[NEED] * count)), 1)
     jobs = max(1, min((os.cpu_count() or 1) // at_once, 4))
+    # the library takes longest, so its texts come first
+    ordered = sorted(TEXTS, key=lambda text: text.crate in PROGRAMS.values())
     with ThreadPoolExecutor(at_once) as runs:
-        found = dict(zip(TEXTS, runs.map(lambda text: made(rtlib, text, jobs), TEXTS)))
+        found = dict(zip(ordered, runs.map(lambda text: made(rtlib, text, jobs), ordered)))
     texts = {text.path: words.encode() for text, (words, _) in found.items()}
     files = {path: sum_of(data) for path, data in texts.items()}
     verdict = Verdict(kit(), asked("sum"), {text.path: said for text, (_, said) in found.items()}, files)

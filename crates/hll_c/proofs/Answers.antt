@@ -1,6 +1,6 @@
 -- SPDX-License-Identifier: Apache-2.0
 -- Lemmas on what calls return and write.
-use Rattle.std.proofs.Common.{◌≡◌, ℕ, ◌<◌, ◌≤◌, List, ◌++◌, length, drop, Result, Ok, Err, refl, subst, sym, ap, ◌∙◌}
+use Rattle.std.proofs.Common.{◌≡◌, ℕ, List, Result, Ok, Err, refl, subst, sym, ap, ◌∙◌}
 use Rattle.std.specs.Result.{MatchResult, IfOk, IfErr}
 use Rattle.hll_base.specs.Reason.{number_of}
 use Rattle.hll_base.specs.declared.error.Reason.{Reason}
@@ -11,7 +11,7 @@ use Rattle.hll_sketch.proofs.SetFields.{fields_twice}
 use Rattle.hll_sketch.specs.EstimatorFields.{SetsFields, SetsFieldsIn, HasClearedState, FillsFields, filled, stays}
 use Rattle.hll_sketch.specs.Layout.{SketchLayout, sketch_of}
 use Rattle.hll_sketch.specs.Value.{Sketch}
-use Rattle.hll_c.specs.Answers.{Answers, IsImageOf, WithFields, PutsBytes, wrote, too_small, refused, Reports, reported, untold, Tests, passed, failed, ok_code, buffer_code}
+use Rattle.hll_c.specs.Answers.{Answers, IsImageOf, WithFields, PutsBytes, wrote, too_small, refused, Reports, reported, untold, Tests, passed, failed, ok_code}
 
 -- the sketch that was made, and why none was, or why no image of it is written
 abbrev pub IsOf : Result SketchLayout Reason → Sketch → Type 0
@@ -67,15 +67,10 @@ module _ {X : Type 0} (items : X → List ℕ) (image : Result X Reason) where
   abbrev pub IsWhyNone : Reason → Type 0
   IsWhyNone r = MatchResult image (λ _. ⊥) (λ e. r ≡ e)
 
-  are_of : (v : X) → image ≡ Ok v → AreOf (items v)
-  are_of v is = subst (λ m. MatchResult m (λ w. items v ≡ items w) (λ _. ⊥)) (sym is) refl
-
-  pub puts : (v : X) (old new : List ℕ) (size_old size_new : ℕ) → image ≡ Ok v → length (items v) ≤ length old → new ≡ items v ++ drop (length (items v)) old → size_new ≡ length (items v)
-      → PutsBytes AreOf IsWhyNone old new size_old size_new ok_code
-  puts v old new so sn is fits after size = wrote (items v) (are_of v is) fits after size
-
-  pub wants : (v : X) (old : List ℕ) (size_old size_new : ℕ) → image ≡ Ok v → length old < length (items v) → size_new ≡ length (items v) → PutsBytes AreOf IsWhyNone old old size_old size_new buffer_code
-  wants v old so sn is short size = too_small (items v) (are_of v is) short refl size
+  -- bytes that are put for the image
+  pub puts_of : (v : X) (b : List ℕ) (old new : List ℕ) (size_old size_new code : ℕ) → image ≡ Ok v → b ≡ items v → PutsBytes (λ a. a ≡ b) (λ _. ⊥) old new size_old size_new code
+      → PutsBytes AreOf IsWhyNone old new size_old size_new code
+  puts_of v b old new so sn code is same = puts_as old new so sn code (λ a e. subst (λ m. MatchResult m (λ w. a ≡ items w) (λ _. ⊥)) (sym is) (e ∙ same)) (λ r none. absurd none)
 
   pub puts_nothing : (e : Reason) (old : List ℕ) (size code : ℕ) → image ≡ Err e → code ≡ number_of e → PutsBytes AreOf IsWhyNone old old size size code
   puts_nothing e old size code is number =

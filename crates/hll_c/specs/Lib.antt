@@ -9,3 +9,4 @@ pub mod StateInfo
 pub mod States
 pub mod Steps
 pub mod Unions
+pub mod Written

@@ -5,8 +5,10 @@ ghost use Rattle.hll_base.specs.declared.error.Reason.TheVariants.{Memory};
 ghost use Rattle.hll_sketch.specs.Layout.{sketch_of};
 ghost use Rattle.hll_sketch.specs.EstimatorFields.{FillsFields};
 ghost use Rattle.hll_c.specs.Answers.{Answers, IsImageOf, PutsBytes, Reports, Tests};
+ghost use Rattle.hll_c.specs.Written.{bytes_of};
 
 use hll_base::error::Error;
+use hll_registers::image_parts::ImageParts;
 use hll_sketch::HllSketch;
 
 /// The call did what was asked.
@@ -46,21 +48,57 @@ pub(crate) fn put_image(made: Result<HllSketch, Error>, out: &mut [u8], size: &m
     put_bytes(image_of(made), out, size)
 }
 
+/// What a call writes: the bytes of an image, or its parts.
+pub(crate) enum Written<'a> {
+    /// All its bytes.
+    Bytes(Vec<u8>),
+    /// Its parts, borrowed from another image.
+    Parts(ImageParts<'a>),
+}
+
+/// Writes an image into the first bytes of `out`, if there is room for it. Sets `size` to the size of the image.
+pub(crate) fn put_written(image: Result<Written<'_>, Error>, out: &mut [u8], size: &mut usize) -> u8
+    ensures { PutsBytes (λ b. MatchResult image.entry (λ w. b ≡ bytes_of w) (λ _. ⊥)) (λ r. MatchResult image.entry (λ _. ⊥) (λ e. r ≡ e)) out.old out.new size.old size.new result }
+{
+    match image {
+        Ok(Written::Bytes(bytes)) => put_slice(&bytes, out, size),
+        Ok(Written::Parts(parts)) => put_parts(&parts, out, size),
+        Err(e) => e.reason().number(),
+    }
+}
+
 /// Writes an image into the first bytes of `out`, if there is room for it. Sets `size` to the size of the image.
 pub(crate) fn put_bytes(image: Result<Vec<u8>, Error>, out: &mut [u8], size: &mut usize) -> u8
     ensures { PutsBytes (λ b. MatchResult image (λ v. b ≡ v.items) (λ _. ⊥)) (λ r. MatchResult image (λ _. ⊥) (λ e. r ≡ e)) out.old out.new size.old size.new result }
 {
     match image {
-        Ok(image) => {
-            *size = image.len();
-            if image.len() > out.len() {
-                return BUFFER;
-            }
-            out[..image.len()].copy_from_slice(&image);
-            OK
-        }
+        Ok(image) => put_slice(&image, out, size),
         Err(e) => e.reason().number(),
     }
+}
+
+/// Writes the parts of an image into the first bytes of `out`, if there is room for them. Sets `size` to the size of the image.
+fn put_parts(parts: &ImageParts<'_>, out: &mut [u8], size: &mut usize) -> u8
+    ensures { PutsBytes (λ b. b ≡ parts.now) (λ _. ⊥) out.old out.new size.old size.new result }
+{
+    *size = parts.len();
+    if *size > out.len() {
+        return BUFFER;
+    }
+    parts.put(out);
+    OK
+}
+
+/// Writes bytes into the first bytes of `out`, if there is room for them. Sets `size` to their number.
+fn put_slice(bytes: &[u8], out: &mut [u8], size: &mut usize) -> u8
+    ensures { PutsBytes (λ b. b ≡ bytes.now) (λ _. ⊥) out.old out.new size.old size.new result }
+{
+    *size = bytes.len();
+    if bytes.len() > out.len() {
+        return BUFFER;
+    }
+    out[..bytes.len()].copy_from_slice(bytes);
+    OK
 }
 
 /// Returns the image of the sketch that was made.

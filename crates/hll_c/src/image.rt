@@ -18,8 +18,9 @@ ghost use Rattle.hll_c.specs.Answers.{IsImageOf, WithFields, RefusesArguments, R
 ghost use Rattle.hll_c.specs.Batches.{AreEnds, strings};
 ghost use Rattle.hll_c.specs.Calls.{bit, AreNewArguments, IsEmptyAt, IsMadeOf, IsFoldOf, RefusesFold, HasWidth, IsAtWidth, AsksWidth, IsCleared, AreOfCoupon, HasCoupon, HasValues, SaysAgreement};
 ghost use Rattle.hll_c.specs.Steps.{IsRefusedAt};
+ghost use Rattle.hll_c.specs.Written.{bytes_of};
 
-use crate::answer::image_with_fields;
+use crate::answer::{Written, image_with_fields};
 use crate::arguments::{asked_width, lg_k_of_number, width_of};
 use crate::batch::{are_ends, put_each};
 use hll_base::bounds::{MAX_VALUE, SLOT_BITS};
@@ -27,11 +28,12 @@ use hll_base::error::{Error, Reason};
 use hll_base::hll_type::HllType;
 use hll_coupons::coupon::Coupon;
 use hll_coupons::serialization::{TGT_HLL4, TGT_HLL6, extract_tgt_hll_type};
+use hll_registers::image_parts::ImageParts;
 use hll_sketch::borrowed_registers::BorrowedRegisters;
 use hll_sketch::coupon_images::{coupon_image_with, says_registers};
 use hll_sketch::image_size::size_of_image;
 use hll_sketch::{
-    HllSketch, coupon_image_at, folded_coupon_image, held_register_image, register_image_at,
+    HllSketch, coupon_image_at, folded_coupon_image, register_image_at, register_image_with,
 };
 use std::alloc::Global;
 
@@ -105,8 +107,8 @@ pub(crate) fn with_coupon(
     image: &[u8],
     slot: u32,
     value: u32,
-) -> Result<Vec<u8>, Error>
-    ensures ok { IfOk result (λ written. IsImageOf (WithFields (IsMadeOf image.now (HasCoupon slot value))) written.items) }
+) -> Result<Written<'_>, Error>
+    ensures ok { IfOk result (λ written. IsImageOf (WithFields (IsMadeOf image.now (HasCoupon slot value))) (bytes_of written)) }
     ensures err { IfErr result (λ e. RefusesWith (AreOfCoupon slot value) image.now e) }
 {
     if !are_of_coupon(slot, value) {
@@ -114,12 +116,13 @@ pub(crate) fn with_coupon(
     }
     let coupon = Coupon::pack(slot, value as u8);
     if let Some(written) = coupon_image_with(alloc, image, &mut [coupon.raw()])? {
-        return Ok(written);
+        return Ok(Written::Bytes(written));
     }
-    match held_register_image(alloc, image, &[coupon.raw()])? {
-        Some(written) => Ok(written),
-        None => image_with_fields(sketch_with_coupon(alloc, image, coupon)?),
+    if let Some(parts) = register_image_with(image, &[coupon.raw()]) {
+        return Ok(Written::Parts(parts));
     }
+    let sketch = sketch_with_coupon(alloc, image, coupon)?;
+    Ok(Written::Bytes(image_with_fields(sketch)?))
 }
 
 /// Returns the sketch of the image with one more coupon.
@@ -142,46 +145,44 @@ fn are_of_coupon(slot: u32, value: u32) -> bool
 
 /// Returns the image with the coupons of the byte strings that are delimited by `ends`, with its estimator fields set if its
 /// estimate state is cleared.
-pub(crate) fn with_values(
+pub(crate) fn with_values<'a>(
     alloc: Global,
-    image: &[u8],
+    image: &'a [u8],
     values: &[u8],
     ends: &[usize],
-) -> Result<Vec<u8>, Error>
-    ensures ok { IfOk result (λ written. IsImageOf (WithFields (IsMadeOf image.now (HasValues values.now ends.now))) written.items) }
+) -> Result<Written<'a>, Error>
+    ensures ok { IfOk result (λ written. IsImageOf (WithFields (IsMadeOf image.now (HasValues values.now ends.now))) (bytes_of written)) }
     ensures err { IfErr result (λ e. RefusesWith (AreEnds (length values.now) ends.now) image.now e) }
 {
     if !are_ends(ends, values.len()) {
         return Err(Error::new(Reason::Argument));
     }
     if let Some(written) = coupon_image_with_values(alloc, image, values, ends)? {
-        return Ok(written);
+        return Ok(Written::Bytes(written));
     }
-    match held_image_with_values(alloc, image, values, ends)? {
-        Some(written) => Ok(written),
-        None => image_with_fields(sketch_with_values(alloc, image, values, ends)?),
+    if let Some(parts) = register_image_with_values(image, values, ends) {
+        return Ok(Written::Parts(parts));
     }
+    let sketch = sketch_with_values(alloc, image, values, ends)?;
+    Ok(Written::Bytes(image_with_fields(sketch)?))
 }
 
-/// Returns an image of 8-bit or 6-bit registers with the coupons of at most `FEW` byte strings, if its registers hold them all.
-/// Returns `None` for more strings, or if `held_register_image` returns `None`.
-fn held_image_with_values(
-    alloc: Global,
-    image: &[u8],
+/// Returns an image of 8-bit or 6-bit registers with the coupons of at most `FEW` byte strings, if its registers hold them all or
+/// there is one. Returns `None` for more strings, or if `register_image_with` returns `None`.
+fn register_image_with_values<'a>(
+    image: &'a [u8],
     values: &[u8],
     ends: &[usize],
-) -> Result<Option<Vec<u8>>, Error>
+) -> Option<ImageParts<'a>>
     requires { AreEnds (length values.now) ends.now }
-    ensures some { IfOk result (λ found. IfSome found (λ written. IsFilledImageWith (map coupon_of_bytes (strings values.now ends.now)) image.now written.items)) }
-    ensures read { OnErr result ((x : Sketch) × IsReadAs image.now x) }
-    ensures err { IfErr result (λ e. e ≡ reasons.Memory) }
+    ensures { IfSome result (λ written. IsFilledImageWith (map coupon_of_bytes (strings values.now ends.now)) image.now written) }
 {
     if FEW < ends.len() {
-        return Ok(None);
+        return None;
     }
     let mut raw_coupons = [0; FEW];
     put_each(values, 0, ends, &mut raw_coupons);
-    held_register_image(alloc, image, &raw_coupons[..ends.len()])
+    register_image_with(image, &raw_coupons[..ends.len()])
 }
 
 /// Returns an image of coupons with the coupons of 1 to `BLOCK` byte strings, without making a table. Returns `None` for
@@ -263,18 +264,19 @@ fn folded_sketch(alloc: Global, image: &[u8], lg_k: u8) -> Result<HllSketch, Err
 }
 
 /// Returns the image at the width that a number asks for. 0 asks for the image's own width.
-pub(crate) fn converted(alloc: Global, image: &[u8], width: u32) -> Result<Vec<u8>, Error>
-    ensures ok { IfOk result (λ written. IsImageOf (WithFields (IsMadeOf image.now (IsAtWidth width))) written.items) }
+pub(crate) fn converted(alloc: Global, image: &[u8], width: u32) -> Result<Written<'_>, Error>
+    ensures ok { IfOk result (λ written. IsImageOf (WithFields (IsMadeOf image.now (IsAtWidth width))) (bytes_of written)) }
     ensures err { IfErr result (λ e. RefusesWith (AsksWidth width) image.now e) }
 {
     let hll_type = asked_width(width, width_in_header(image))?;
     if let Some(written) = coupon_image_at(alloc, hll_type, image)? {
-        return Ok(written);
+        return Ok(Written::Bytes(written));
     }
-    match register_image_at(alloc, hll_type, image)? {
-        Some(written) => Ok(written),
-        None => image_with_fields(sketch_at(alloc, image, hll_type)?),
+    if let Some(parts) = register_image_at(hll_type, image)? {
+        return Ok(Written::Parts(parts));
     }
+    let sketch = sketch_at(alloc, image, hll_type)?;
+    Ok(Written::Bytes(image_with_fields(sketch)?))
 }
 
 /// Returns the sketch of the image at a width.

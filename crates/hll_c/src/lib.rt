@@ -50,7 +50,7 @@ mod state;
 mod state_info;
 mod union;
 
-use crate::answer::{code_of, put_bytes, put_image, report};
+use crate::answer::{code_of, put_bytes, put_image, put_written, report};
 use crate::batch::put_coupons;
 use crate::estimate::HllEstimate;
 use crate::info::{HllHistogram, HllInfo};
@@ -140,7 +140,8 @@ pub extern "C" fn hll_image_new(
 /// empty string is a value like any other.
 ///
 /// Returns `Argument` if ends descend or an end is after the last byte of `values`, the reason of the first check that the
-/// image fails, or `Memory`. Allocates its sketch and the written image.
+/// image fails, or `Memory`. Allocates its sketch and the written image; nothing if an image of 8-bit or 6-bit registers gets
+/// one value, or up to 16 that change no register.
 #[unsafe(no_mangle)]
 pub extern "C" fn hll_image_add(
     alloc: Global,
@@ -152,13 +153,13 @@ pub extern "C" fn hll_image_add(
 ) -> u8
     ensures { Answers (IsMadeOf image.now (HasValues values.now ends.now)) (RefusesWith (AreEnds (length values.now) ends.now) image.now) out.old out.new size.old size.new result }
 {
-    put_bytes(image::with_values(alloc, image, values, ends), out, size)
+    put_written(image::with_values(alloc, image, values, ends), out, size)
 }
 
 /// Writes the image with one more coupon into `out`: a slot below 2^26, and a value from 1 to 63.
 ///
 /// Returns `Argument` if the slot or the value is out of range, the reason of the first check that the image fails, or
-/// `Memory`. Allocates its sketch and the written image.
+/// `Memory`. Allocates its sketch and the written image; nothing for an image of 8-bit or 6-bit registers.
 #[unsafe(no_mangle)]
 pub extern "C" fn hll_image_add_coupon(
     alloc: Global,
@@ -170,7 +171,7 @@ pub extern "C" fn hll_image_add_coupon(
 ) -> u8
     ensures { Answers (IsMadeOf image.now (HasCoupon slot value)) (RefusesWith (AreOfCoupon slot value) image.now) out.old out.new size.old size.new result }
 {
-    put_bytes(image::with_coupon(alloc, image, slot, value), out, size)
+    put_written(image::with_coupon(alloc, image, slot, value), out, size)
 }
 
 /// Writes the image of the union of two images into `out`, at a width. `lg_max_k` is the bound of its `lg_k`.
@@ -267,7 +268,8 @@ pub extern "C" fn hll_image_fold(
 /// own.
 ///
 /// Returns `Argument` if `width` is not 0, 4, 6 or 8, the reason of the first check that the image fails, or `Memory`.
-/// Allocates its sketch, for another width also a sketch of that width, and the written image.
+/// Allocates its sketch, for another width also a sketch of that width, and the written image; nothing for an image of 8-bit or
+/// 6-bit registers at its own width.
 #[unsafe(no_mangle)]
 pub extern "C" fn hll_image_convert(
     alloc: Global,
@@ -278,7 +280,7 @@ pub extern "C" fn hll_image_convert(
 ) -> u8
     ensures { Answers (IsMadeOf image.now (IsAtWidth width)) (RefusesWith (AsksWidth width) image.now) out.old out.new size.old size.new result }
 {
-    put_bytes(image::converted(alloc, image, width), out, size)
+    put_written(image::converted(alloc, image, width), out, size)
 }
 
 /// Writes the image with its estimator fields set into `out` (docs/FORMAT.md, "Estimator fields"). The sketch of a list or a

@@ -1,6 +1,7 @@
 -- SPDX-License-Identifier: Apache-2.0
 pub mod Blocks
 pub mod Bounds
+pub mod FieldBlocks
 pub mod FourBitLanes
 pub mod Grouping
 pub mod Lowering

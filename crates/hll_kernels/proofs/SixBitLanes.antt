@@ -1,25 +1,20 @@
 -- SPDX-License-Identifier: Apache-2.0
 -- Lemmas on 6-bit registers in lanes.
-use Rattle.std.proofs.Common.{◌≡◌, ℕ, ◌+◌, ◌-◌, ◌*◌, ◌/◌, ◌%◌, ◌^◌, ◌<◌, ◌≤◌, zero, suc, List, [], ◌∷◌, ◌++◌, length, get_or, take, drop, replicate, cond, max, All, bit_and, bit_or, refl, sym, ap, subst, ◌∙◌, arith}
-use Rattle.std.specs.Prelude.{◌&&◌, ◌==◌, nat_le, nat_lt}
+use Rattle.std.proofs.Common.{◌≡◌, ℕ, ◌+◌, ◌*◌, ◌/◌, ◌%◌, ◌^◌, ◌<◌, ◌≤◌, zero, suc, List, [], ◌∷◌, ◌++◌, length, get_or, take, drop, replicate, max, All, bit_and, refl, sym, ap, subst, ◌∙◌, arith}
 use Rattle.std.specs.List.{flat_map}
-use Rattle.std.specs.Simd.Lanes.{pick_l, zip2, sel_l, sum_l, chunk, put_chunk, top, number_l, digits_l, Each1}
-use Rattle.std.proofs.lemmas.Bool.Decides.{nat_tests}
+use Rattle.std.specs.Simd.Lanes.{pick_l, zip2, chunk, put_chunk, number_l, digits_l, Each1}
 use Rattle.std.proofs.Math.ListN.{set}
 use Rattle.std.proofs.Math.Seq.{take-add}
-use Rattle.std.proofs.lemmas.List.{length-append, length-take-le, take_all}
-use Rattle.std.proofs.lemmas.List.Sums.{sum_by-cons}
+use Rattle.std.proofs.lemmas.List.{length-append, length-drop, length-take-le, take_all}
 use Rattle.std.proofs.lemmas.List.Elements.{All-tail, All-append, All-take, All-drop}
-use Rattle.std.proofs.lemmas.Nat.{and_mask, le_or_l}
-use Rattle.std.proofs.lemmas.Simd.{Each1-get_or, length-zip2, pick_l_whole}
+use Rattle.std.proofs.lemmas.Nat.{and_mask}
+use Rattle.std.proofs.lemmas.Simd.{Each1-chunk, Each1-zip2, Each2-all, pick_l_whole}
 use Rattle.hll_base.specs.Join.{join}
 use Rattle.hll_kernels.specs.Groups.{IsGroup, group_fields, registers_in}
-use Rattle.hll_kernels.specs.Lanes.{max_at, words_of, bytes_of, fields_of, numbers_of, groups_of}
-use Rattle.hll_kernels.specs.Packed.{group_bytes, field_bytes, fields, zeros}
+use Rattle.hll_kernels.specs.Lanes.{max_at, words_of, pairs_of, fields_of_pairs, numbers_of, groups_of}
+use Rattle.hll_kernels.specs.Packed.{group_bytes, field_bytes, fields}
 use Rattle.hll_kernels.proofs.Grouping.{small-group_fields, group_fields-group_bytes, field_bytes-registers_in}
-use Rattle.hll_kernels.proofs.Parts.{max_more, greater}
-use Rattle.hll_kernels.proofs.FourBitLanes.{above}
-use Rattle.hll_kernels.proofs.ZeroTests.{nonzero_lanes, nonzeros_by_lanes}
+use Rattle.hll_kernels.proofs.Parts.{max_more}
 use mathlib.Core.List.{map}
 
 -- ---- 32-bit numbers and their bytes
@@ -41,23 +36,37 @@ digits_words (suc n) (a ∷ b ∷ c ∷ d ∷ xs) e h =
     let high : (a + 256 * (b + 256 * (c + 256 * (d + 256 * m)))) / 4294967296 ≡ m = omega arith in
     (λ i. low i ∷ digits_l 4294967296 n (high i)) ∙ ap (λ S. (a + 256 * b + 65536 * c + 16777216 * d) ∷ S) (digits_words n xs (omega arith) h.1.1.1.1)
 
-pub digits_bytes : (m : ℕ) (ws : List ℕ) → m ≡ 4 * length ws → Each1 (λ w. w < 4294967296) ws → digits_l 256 m (number_l 4294967296 ws) ≡ bytes_of ws
+pub digits_pairs : (n : ℕ) (xs : List ℕ) → length xs ≡ 2 * n → Each1 (λ x. x < 256) xs → digits_l 65536 n (number_l 256 xs) ≡ pairs_of xs
+digits_pairs zero [] e h = refl
+digits_pairs zero (a ∷ xs) e h = absurd (omega arith)
+digits_pairs (suc n) [] e h = absurd (omega arith)
+digits_pairs (suc n) (a ∷ []) e h = absurd (omega arith)
+digits_pairs (suc n) (a ∷ b ∷ xs) e h =
+    let m : ℕ = number_l 256 xs in
+    let ha : a < 256 = h.0 in
+    let hb : b < 256 = h.1.0 in
+    let low : (a + 256 * (b + 256 * m)) % 65536 ≡ a + 256 * b = omega arith in
+    let high : (a + 256 * (b + 256 * m)) / 65536 ≡ m = omega arith in
+    (λ i. low i ∷ digits_l 65536 n (high i)) ∙ ap (λ S. (a + 256 * b) ∷ S) (digits_pairs n xs (omega arith) h.1.1)
+
+-- the two bytes of each 16-bit number, the lower byte first
+abbrev pub bytes_of_pairs : List ℕ → List ℕ
+bytes_of_pairs [] = []
+bytes_of_pairs (w ∷ ws) = (w % 256) ∷ (w / 256 % 256) ∷ bytes_of_pairs ws
+
+pub digits_bytes : (m : ℕ) (ws : List ℕ) → m ≡ 2 * length ws → Each1 (λ w. w < 65536) ws → digits_l 256 m (number_l 65536 ws) ≡ bytes_of_pairs ws
 digits_bytes zero [] e h = refl
 digits_bytes zero (w ∷ ws) e h = absurd (omega arith)
 digits_bytes (suc m) [] e h = absurd (omega arith)
 digits_bytes (suc zero) (w ∷ ws) e h = absurd (omega arith)
-digits_bytes (suc (suc zero)) (w ∷ ws) e h = absurd (omega arith)
-digits_bytes (suc (suc (suc zero))) (w ∷ ws) e h = absurd (omega arith)
-digits_bytes (suc (suc (suc (suc m)))) (w ∷ ws) e h =
-    let n : ℕ = number_l 4294967296 ws in
-    let hw : w < 4294967296 = h.0 in
-    let t : ℕ = w + 4294967296 * n in
+digits_bytes (suc (suc m)) (w ∷ ws) e h =
+    let n : ℕ = number_l 65536 ws in
+    let hw : w < 65536 = h.0 in
+    let t : ℕ = w + 65536 * n in
     let one : t % 256 ≡ w % 256 = omega arith in
     let two : t / 256 % 256 ≡ w / 256 % 256 = omega arith in
-    let three : t / 256 / 256 % 256 ≡ w / 65536 % 256 = omega arith in
-    let four : t / 256 / 256 / 256 % 256 ≡ w / 16777216 % 256 = omega arith in
-    let high : t / 256 / 256 / 256 / 256 ≡ n = omega arith in
-    (λ i. one i ∷ two i ∷ three i ∷ four i ∷ digits_l 256 m (high i)) ∙ ap (λ S. (w % 256) ∷ (w / 256 % 256) ∷ (w / 65536 % 256) ∷ (w / 16777216 % 256) ∷ S) (digits_bytes m ws (omega arith) h.1)
+    let high : t / 256 / 256 ≡ n = omega arith in
+    (λ i. one i ∷ two i ∷ digits_l 256 m (high i)) ∙ ap (λ S. (w % 256) ∷ (w / 256 % 256) ∷ S) (digits_bytes m ws (omega arith) h.1)
 
 -- six bits of each 32-bit number
 pub field_lanes : (n from : ℕ) (ws : List ℕ) → length ws ≡ n → zip2 bit_and (zip2 (λ a b. a / 2 ^ b) ws (replicate n from)) (replicate n 63) ≡ map (λ w. w / 2 ^ from % 64) ws
@@ -68,166 +77,119 @@ field_lanes (suc n) from (w ∷ ws) e = λ i. and_mask (w / 2 ^ from) 6 i ∷ fi
 
 -- ---- unpacking
 
--- sixteen lanes with each third byte twice
-pub fields_of-swizzle : (xs : List ℕ) → length xs ≡ 16 →
-    fields_of (pick_l 0 (xs ++ xs) (0 ∷ 1 ∷ 2 ∷ 2 ∷ 3 ∷ 4 ∷ 5 ∷ 5 ∷ 6 ∷ 7 ∷ 8 ∷ 8 ∷ 9 ∷ 10 ∷ 11 ∷ 11 ∷ [])) ≡ fields (take 12 xs)
-fields_of-swizzle xs e =
-    subst (λ ys. fields_of (pick_l 0 (ys ++ ys) (0 ∷ 1 ∷ 2 ∷ 2 ∷ 3 ∷ 4 ∷ 5 ∷ 5 ∷ 6 ∷ 7 ∷ 8 ∷ 8 ∷ 9 ∷ 10 ∷ 11 ∷ 11 ∷ [])) ≡ fields (take 12 ys)) (pick_l_whole 0 xs 16 e) refl
+-- the second of each three bytes twice
+abbrev twice : List ℕ → List ℕ
+twice (a ∷ b ∷ c ∷ rest) = a ∷ b ∷ b ∷ c ∷ twice rest
+twice _ = []
 
-pub fields_of-swizzle_last : (xs : List ℕ) → length xs ≡ 16 →
-    fields_of (pick_l 0 (xs ++ xs) (4 ∷ 5 ∷ 6 ∷ 6 ∷ 7 ∷ 8 ∷ 9 ∷ 9 ∷ 10 ∷ 11 ∷ 12 ∷ 12 ∷ 13 ∷ 14 ∷ 15 ∷ 15 ∷ [])) ≡ fields (take 12 (drop 4 xs))
-fields_of-swizzle_last xs e =
-    subst (λ ys. fields_of (pick_l 0 (ys ++ ys) (4 ∷ 5 ∷ 6 ∷ 6 ∷ 7 ∷ 8 ∷ 9 ∷ 9 ∷ 10 ∷ 11 ∷ 12 ∷ 12 ∷ 13 ∷ 14 ∷ 15 ∷ 15 ∷ [])) ≡ fields (take 12 (drop 4 ys))) (pick_l_whole 0 xs 16 e) refl
-
-one_group : (a b c d : ℕ) → a < 256 → b < 256 → c < 256 → d < 256 →
-    let w = a + 256 * b + 65536 * c + 16777216 * d in
-    let g = a + 256 * b + 65536 * c in
-    let s = ((w / 1 % 64 + w / 64 % 64 * 256 % 4294967296) % 4294967296 + (w / 4096 % 64 * 65536 % 4294967296 + w / 262144 % 64 * 16777216 % 4294967296) % 4294967296) % 4294967296 in
-    (s % 256 ≡ g % 64) × (s / 256 % 256 ≡ g / 64 % 64) × (s / 65536 % 256 ≡ g / 4096 % 64) × (s / 16777216 % 256 ≡ g / 262144)
-one_group a b c d ha hb hc hd =
-    let w : ℕ = a + 256 * b + 65536 * c + 16777216 * d in
+fields_of-twice : (k : ℕ) (xs : List ℕ) → length xs ≡ 3 * k → Each1 (λ x. x < 256) xs → fields_of_pairs (twice xs) ≡ fields xs
+fields_of-twice zero [] e h = refl
+fields_of-twice zero (a ∷ xs) e h = absurd (omega arith)
+fields_of-twice (suc k) [] e h = absurd (omega arith)
+fields_of-twice (suc k) (a ∷ []) e h = absurd (omega arith)
+fields_of-twice (suc k) (a ∷ b ∷ []) e h = absurd (omega arith)
+fields_of-twice (suc k) (a ∷ b ∷ c ∷ xs) e h =
+    let ha : a < 256 = h.0 in
+    let hb : b < 256 = h.1.0 in
     let g : ℕ = a + 256 * b + 65536 * c in
-    let e0 : w / 1 % 64 ≡ g % 64 = omega arith in
-    let e1 : w / 64 % 64 ≡ g / 64 % 64 = omega arith in
-    let e2 : w / 4096 % 64 ≡ g / 4096 % 64 = omega arith in
-    let e3 : w / 262144 % 64 ≡ g / 262144 = omega arith in
-    let l3 : g / 262144 < 64 = omega arith in
-    let four : (p q r s : ℕ) → p < 64 → q < 64 → r < 64 → s < 64 → ((p + q * 256 % 4294967296) % 4294967296 + (r * 65536 % 4294967296 + s * 16777216 % 4294967296) % 4294967296) % 4294967296 ≡ p + 256 * q + 65536 * r + 16777216 * s = λ p q r s hp hq hr hs. omega arith in
-    let t : ((w / 1 % 64 + w / 64 % 64 * 256 % 4294967296) % 4294967296 + (w / 4096 % 64 * 65536 % 4294967296 + w / 262144 % 64 * 16777216 % 4294967296) % 4294967296) % 4294967296 ≡ g % 64 + 256 * (g / 64 % 64) + 65536 * (g / 4096 % 64) + 16777216 * (g / 262144) = (λ i. ((e0 i + e1 i * 256 % 4294967296) % 4294967296 + (e2 i * 65536 % 4294967296 + e3 i * 16777216 % 4294967296) % 4294967296) % 4294967296) ∙ four (g % 64) (g / 64 % 64) (g / 4096 % 64) (g / 262144) (omega arith) (omega arith) (omega arith) l3 in
-    let parts : (p q r s : ℕ) → p < 64 → q < 64 → r < 64 → s < 64 → let n = p + 256 * q + 65536 * r + 16777216 * s in (n % 256 ≡ p) × (n / 256 % 256 ≡ q) × (n / 65536 % 256 ≡ r) × (n / 16777216 % 256 ≡ s) = λ p q r s hp hq hr hs. (omega arith, omega arith, omega arith, omega arith) in
-    let u = parts (g % 64) (g / 64 % 64) (g / 4096 % 64) (g / 262144) (omega arith) (omega arith) (omega arith) l3 in
-    (ap (λ n. n % 256) t ∙ u.0, ap (λ n. n / 256 % 256) t ∙ u.1, ap (λ n. n / 65536 % 256) t ∙ u.2, ap (λ n. n / 16777216 % 256) t ∙ u.3)
+    let first : a % 64 ≡ g % 64 = omega arith in
+    let second : (a + 256 * b) / 64 % 64 ≡ g / 64 % 64 = omega arith in
+    let third : (b + 256 * c) / 16 % 64 ≡ g / 4096 % 64 = omega arith in
+    let fourth : c / 4 ≡ g / 262144 = omega arith in
+    λ i. first i ∷ second i ∷ third i ∷ fourth i ∷ fields_of-twice k xs (omega arith) h.1.1.1 i
 
--- four registers of each 32-bit number, a byte each
-pub spread_lanes : (n : ℕ) (xs : List ℕ) → length xs ≡ 4 * n → Each1 (λ x. x < 256) xs →
-    bytes_of (zip2 (λ a b. (a + b) % 4294967296)
-    (zip2 (λ a b. (a + b) % 4294967296) (map (λ w. w / 2 ^ 0 % 64) (words_of xs)) (zip2 (λ a b. a * 2 ^ b % 4294967296) (map (λ w. w / 2 ^ 6 % 64) (words_of xs)) (replicate n 8)))
-    (zip2 (λ a b. (a + b) % 4294967296) (zip2 (λ a b. a * 2 ^ b % 4294967296) (map (λ w. w / 2 ^ 12 % 64) (words_of xs)) (replicate n 16)) (zip2 (λ a b. a * 2 ^ b % 4294967296) (map (λ w. w / 2 ^ 18 % 64) (words_of xs)) (replicate n 24))))
-    ≡ fields_of xs
-spread_lanes zero [] e h = refl
-spread_lanes zero (a ∷ xs) e h = absurd (omega arith)
-spread_lanes (suc n) [] e h = absurd (omega arith)
-spread_lanes (suc n) (a ∷ []) e h = absurd (omega arith)
-spread_lanes (suc n) (a ∷ b ∷ []) e h = absurd (omega arith)
-spread_lanes (suc n) (a ∷ b ∷ c ∷ []) e h = absurd (omega arith)
-spread_lanes (suc n) (a ∷ b ∷ c ∷ d ∷ xs) e h =
-    let g = one_group a b c d h.0 h.1.0 h.1.1.0 h.1.1.1.0 in
-    λ i. g.0 i ∷ g.1 i ∷ g.2 i ∷ g.3 i ∷ spread_lanes n xs (omega arith) h.1.1.1.1 i
+-- sixteen lanes with the second byte of each of four groups twice
+pub pairs-swizzle : (xs : List ℕ) → length xs ≡ 16 → Each1 (λ x. x < 256) xs →
+    fields_of_pairs (pick_l 0 (xs ++ xs) (0 ∷ 1 ∷ 1 ∷ 2 ∷ 3 ∷ 4 ∷ 4 ∷ 5 ∷ 6 ∷ 7 ∷ 7 ∷ 8 ∷ 9 ∷ 10 ∷ 10 ∷ 11 ∷ [])) ≡ fields (take 12 xs)
+pairs-swizzle xs e h =
+    subst (λ ys. fields_of_pairs (pick_l 0 (ys ++ ys) (0 ∷ 1 ∷ 1 ∷ 2 ∷ 3 ∷ 4 ∷ 4 ∷ 5 ∷ 6 ∷ 7 ∷ 7 ∷ 8 ∷ 9 ∷ 10 ∷ 10 ∷ 11 ∷ [])) ≡ fields_of_pairs (twice (take 12 ys))) (pick_l_whole 0 xs 16 e) refl
+    ∙ fields_of-twice 4 (take 12 xs) (length-take-le 12 xs (omega (arith, e))) (Each1-chunk (λ x. x < 256) 0 12 xs h)
 
--- ---- zeros
+pub pairs-swizzle_last : (xs : List ℕ) → length xs ≡ 16 → Each1 (λ x. x < 256) xs →
+    fields_of_pairs (pick_l 0 (xs ++ xs) (4 ∷ 5 ∷ 5 ∷ 6 ∷ 7 ∷ 8 ∷ 8 ∷ 9 ∷ 10 ∷ 11 ∷ 11 ∷ 12 ∷ 13 ∷ 14 ∷ 14 ∷ 15 ∷ [])) ≡ fields (take 12 (drop 4 xs))
+pairs-swizzle_last xs e h =
+    subst (λ ys. fields_of_pairs (pick_l 0 (ys ++ ys) (4 ∷ 5 ∷ 5 ∷ 6 ∷ 7 ∷ 8 ∷ 8 ∷ 9 ∷ 10 ∷ 11 ∷ 11 ∷ 12 ∷ 13 ∷ 14 ∷ 14 ∷ 15 ∷ [])) ≡ fields_of_pairs (twice (take 12 (drop 4 ys)))) (pick_l_whole 0 xs 16 e) refl
+    ∙ fields_of-twice 4 (take 12 (drop 4 xs)) (length-take-le 12 (drop 4 xs) (omega (arith, e, length-drop 4 xs))) (Each1-chunk (λ x. x < 256) 4 12 xs h)
 
--- the bounds that the byte before each lane is compared with, for n 32-bit numbers
-abbrev belows : ℕ → List ℕ
-belows zero = []
-belows (suc n) = 255 ∷ 63 ∷ 15 ∷ 3 ∷ belows n
+pub fields_of_pairs-append : (k : ℕ) (xs ys : List ℕ) → length xs ≡ 4 * k → fields_of_pairs (xs ++ ys) ≡ fields_of_pairs xs ++ fields_of_pairs ys
+fields_of_pairs-append zero [] ys e = refl
+fields_of_pairs-append zero (a ∷ xs) ys e = absurd (omega arith)
+fields_of_pairs-append (suc k) [] ys e = absurd (omega arith)
+fields_of_pairs-append (suc k) (a ∷ []) ys e = absurd (omega arith)
+fields_of_pairs-append (suc k) (a ∷ b ∷ []) ys e = absurd (omega arith)
+fields_of_pairs-append (suc k) (a ∷ b ∷ c ∷ []) ys e = absurd (omega arith)
+fields_of_pairs-append (suc k) (a ∷ b ∷ c ∷ d ∷ xs) ys e =
+    ap (λ S. (a % 64) ∷ ((a + 256 * b) / 64 % 64) ∷ ((c + 256 * d) / 16 % 64) ∷ (d / 4) ∷ S) (fields_of_pairs-append k xs ys (omega arith))
 
-abbrev pub lowers : ℕ → List ℕ
-lowers zero = []
-lowers (suc n) = 63 ∷ 15 ∷ 3 ∷ 0 ∷ lowers n
+-- ---- the registers of pairs
 
-either : (u l : ℕ) → (bit_or u l == 0) ≡ ((u == 0) && (l == 0))
-either zero l = refl
-either (suc u) l = grind (arith, nat_tests, le_or_l (suc u) l)
+-- a value for each of two pairs, n times
+abbrev splats : ℕ → ℕ → List ℕ
+splats zero v = []
+splats (suc n) v = v ∷ v ∷ splats n v
 
--- a difference or-ed with some bits is 0 exactly if both are 0
-both : (y m l : ℕ) → (bit_or (y - m) l == 0) ≡ (nat_le y m && (l == 0))
-both y m l = either (y - m) l ∙ ap (λ t. t && (l == 0)) (grind (arith, nat_tests))
+abbrev factors : ℕ → List ℕ
+factors zero = []
+factors (suc n) = 16 ∷ 1 ∷ factors n
 
-zero_first : (y a b c : ℕ) → y < 256 → (nat_le y 255 && (bit_and a 63 == 0)) ≡ ((a + 256 * b + 65536 * c) % 64 == 0)
-zero_first y a b c h =
-    let e : (a + 256 * b + 65536 * c) % 64 ≡ a % 64 = omega arith in
-    let t : (nat_le y 255 && (a % 64 == 0)) ≡ (a % 64 == 0) = grind (arith, nat_tests) in
-    ap (λ m. nat_le y 255 && (m == 0)) (and_mask a 6) ∙ t ∙ sym (ap (λ m. m == 0) e)
+-- the pairs of n groups, with their registers in the high twelve bits
+abbrev aligned : ℕ → List ℕ → List ℕ
+aligned n ws = zip2 (λ a b. a * b % 65536) ws (factors n)
 
-zero_second : (a b c : ℕ) → a < 256 → (nat_le a 63 && (bit_and b 15 == 0)) ≡ ((a + 256 * b + 65536 * c) / 64 % 64 == 0)
-zero_second a b c h =
-    let e : (a + 256 * b + 65536 * c) / 64 % 64 ≡ a / 64 + 4 * (b % 16) = omega arith in
-    let t : (nat_le a 63 && (b % 16 == 0)) ≡ (a / 64 + 4 * (b % 16) == 0) = grind (arith, nat_tests) in
-    ap (λ m. nat_le a 63 && (m == 0)) (and_mask b 4) ∙ t ∙ sym (ap (λ m. m == 0) e)
+-- the lower and the upper register of each pair, a byte each
+abbrev pub spread_pairs : ℕ → List ℕ → List ℕ
+spread_pairs n ws = zip2 (λ a b. (a + b) % 65536) (zip2 bit_and (zip2 (λ a b. a / 2 ^ b) (aligned n ws) (splats n 4)) (splats n 63))
+    (zip2 (λ a b. a * 2 ^ b % 65536) (zip2 (λ a b. a / 2 ^ b) (aligned n ws) (splats n 10)) (splats n 8))
 
-zero_third : (a b c : ℕ) → a < 256 → b < 256 → (nat_le b 15 && (bit_and c 3 == 0)) ≡ ((a + 256 * b + 65536 * c) / 4096 % 64 == 0)
-zero_third a b c h k =
-    let e : (a + 256 * b + 65536 * c) / 4096 % 64 ≡ b / 16 + 16 * (c % 4) = omega arith in
-    let t : (nat_le b 15 && (c % 4 == 0)) ≡ (b / 16 + 16 * (c % 4) == 0) = grind (arith, nat_tests) in
-    ap (λ m. nat_le b 15 && (m == 0)) (and_mask c 2) ∙ t ∙ sym (ap (λ m. m == 0) e)
+-- the two registers of a pair whose registers are its high twelve bits
+one_pair : (p : ℕ) → p < 65536 → let s = (bit_and (p / 16) 63 + p / 1024 * 256 % 65536) % 65536 in (s % 256 ≡ p / 16 % 64) × (s / 256 % 256 ≡ p / 1024)
+one_pair p h =
+    let low : ℕ = p / 16 % 64 in
+    let high : ℕ = p / 1024 in
+    let is : (bit_and (p / 16) 63 + p / 1024 * 256 % 65536) % 65536 ≡ low + 256 * high = ap (λ m. (m + p / 1024 * 256 % 65536) % 65536) (and_mask (p / 16) 6) ∙ omega arith in
+    let parts : (l u : ℕ) → l < 64 → u < 64 → ((l + 256 * u) % 256 ≡ l) × ((l + 256 * u) / 256 % 256 ≡ u) = λ l u hl hu. (omega arith, omega arith) in
+    let two = parts low high (omega arith) (omega arith) in
+    (ap (λ s. s % 256) is ∙ two.0, ap (λ s. s / 256 % 256) is ∙ two.1)
 
-zero_fourth : (a b c d : ℕ) → a < 256 → b < 256 → (nat_le c 3 && (bit_and d 0 == 0)) ≡ ((a + 256 * b + 65536 * c) / 262144 == 0)
-zero_fourth a b c d h k =
-    let e : (a + 256 * b + 65536 * c) / 262144 ≡ c / 4 = omega arith in
-    let none : bit_and d 0 ≡ 0 = and_mask d 0 ∙ omega arith in
-    let t : (nat_le c 3 && (0 == 0)) ≡ (c / 4 == 0) = grind (arith, nat_tests) in
-    ap (λ m. nat_le c 3 && (m == 0)) none ∙ t ∙ sym (ap (λ m. m == 0) e)
+-- the registers of the first pair of a group, and of the second
+first_pair : (a b : ℕ) → a < 256 → b < 256 → let p = (a + 256 * b) * 16 % 65536 in (p / 16 % 64 ≡ a % 64) × (p / 1024 ≡ (a + 256 * b) / 64 % 64)
+first_pair a b ha hb = (omega arith, omega arith)
 
--- a lane and the one before it
-zero_lanes : (n y : ℕ) (xs : List ℕ) → length xs ≡ 4 * n → y < 256 → Each1 (λ x. x < 256) xs →
-    map (λ v. v == 0) (zip2 bit_or (zip2 (λ a b. a - b) (y ∷ xs) (belows n)) (zip2 bit_and xs (lowers n))) ≡ map (λ v. v == 0) (fields_of xs)
-zero_lanes zero y [] e h k = refl
-zero_lanes zero y (a ∷ xs) e h k = absurd (omega arith)
-zero_lanes (suc n) y [] e h k = absurd (omega arith)
-zero_lanes (suc n) y (a ∷ []) e h k = absurd (omega arith)
-zero_lanes (suc n) y (a ∷ b ∷ []) e h k = absurd (omega arith)
-zero_lanes (suc n) y (a ∷ b ∷ c ∷ []) e h k = absurd (omega arith)
-zero_lanes (suc n) y (a ∷ b ∷ c ∷ d ∷ xs) e h k =
-    let first = both y 255 (bit_and a 63) ∙ zero_first y a b c h in
-    let second = both a 63 (bit_and b 15) ∙ zero_second a b c k.0 in
-    let third = both b 15 (bit_and c 3) ∙ zero_third a b c k.0 k.1.0 in
-    let fourth = both c 3 (bit_and d 0) ∙ zero_fourth a b c d k.0 k.1.0 in
-    λ i. first i ∷ second i ∷ third i ∷ fourth i ∷ zero_lanes n d xs (omega arith) k.1.1.1.0 k.1.1.1.1 i
+second_pair : (c d : ℕ) → c < 256 → d < 256 → let p = (c + 256 * d) * 1 % 65536 in (p / 16 % 64 ≡ (c + 256 * d) / 16 % 64) × (p / 1024 ≡ d / 4)
+second_pair c d hc hd = (omega arith, omega arith)
 
--- sixteen lanes that are rotated by one
-before_lanes : (f : ℕ → ℕ → ℕ) (xs : List ℕ) → length xs ≡ 16 →
-    zip2 f (pick_l 0 (xs ++ xs) (15 ∷ 0 ∷ 1 ∷ 2 ∷ 3 ∷ 4 ∷ 5 ∷ 6 ∷ 7 ∷ 8 ∷ 9 ∷ 10 ∷ 11 ∷ 12 ∷ 13 ∷ 14 ∷ [])) (belows 4) ≡ zip2 f (get_or xs 15 0 ∷ xs) (belows 4)
-before_lanes f xs e =
-    subst (λ ys. zip2 f (pick_l 0 (ys ++ ys) (15 ∷ 0 ∷ 1 ∷ 2 ∷ 3 ∷ 4 ∷ 5 ∷ 6 ∷ 7 ∷ 8 ∷ 9 ∷ 10 ∷ 11 ∷ 12 ∷ 13 ∷ 14 ∷ [])) (belows 4) ≡ zip2 f (get_or ys 15 0 ∷ ys) (belows 4)) (pick_l_whole 0 xs 16 e) refl
+bytes_of-spread : (n : ℕ) (xs : List ℕ) → length xs ≡ 4 * n → Each1 (λ x. x < 256) xs → bytes_of_pairs (spread_pairs n (pairs_of xs)) ≡ fields_of_pairs xs
+bytes_of-spread zero [] e h = refl
+bytes_of-spread zero (a ∷ xs) e h = absurd (omega arith)
+bytes_of-spread (suc n) [] e h = absurd (omega arith)
+bytes_of-spread (suc n) (a ∷ []) e h = absurd (omega arith)
+bytes_of-spread (suc n) (a ∷ b ∷ []) e h = absurd (omega arith)
+bytes_of-spread (suc n) (a ∷ b ∷ c ∷ []) e h = absurd (omega arith)
+bytes_of-spread (suc n) (a ∷ b ∷ c ∷ d ∷ xs) e h =
+    let p : ℕ = (a + 256 * b) * 16 % 65536 in
+    let q : ℕ = (c + 256 * d) * 1 % 65536 in
+    let ps = one_pair p (omega arith) in
+    let qs = one_pair q (omega arith) in
+    let first = first_pair a b h.0 h.1.0 in
+    let second = second_pair c d h.1.1.0 h.1.1.1.0 in
+    λ i. (ps.0 ∙ first.0) i ∷ (ps.1 ∙ first.1) i ∷ (qs.0 ∙ second.0) i ∷ (qs.1 ∙ second.1) i ∷ bytes_of-spread n xs (omega arith) h.1.1.1.1 i
 
-length-fields_of : (n : ℕ) (xs : List ℕ) → length xs ≡ 4 * n → length (fields_of xs) ≡ 4 * n
-length-fields_of zero [] e = refl
-length-fields_of zero (a ∷ xs) e = absurd (omega arith)
-length-fields_of (suc n) [] e = absurd (omega arith)
-length-fields_of (suc n) (a ∷ []) e = absurd (omega arith)
-length-fields_of (suc n) (a ∷ b ∷ []) e = absurd (omega arith)
-length-fields_of (suc n) (a ∷ b ∷ c ∷ []) e = absurd (omega arith)
-length-fields_of (suc n) (a ∷ b ∷ c ∷ d ∷ xs) e = omega (arith, length-fields_of n xs (omega arith))
+length-spread : (n : ℕ) (xs : List ℕ) → length xs ≡ 4 * n → length (spread_pairs n (pairs_of xs)) ≡ 2 * n
+length-spread zero [] e = refl
+length-spread zero (a ∷ xs) e = absurd (omega arith)
+length-spread (suc n) [] e = absurd (omega arith)
+length-spread (suc n) (a ∷ []) e = absurd (omega arith)
+length-spread (suc n) (a ∷ b ∷ []) e = absurd (omega arith)
+length-spread (suc n) (a ∷ b ∷ c ∷ []) e = absurd (omega arith)
+length-spread (suc n) (a ∷ b ∷ c ∷ d ∷ xs) e = omega (arith, length-spread n xs (omega arith))
 
-counted : (xs : List ℕ) → sum_l (map (λ b. cond {A = ℕ} b 1 0) (map (λ v. v == 0) xs)) ≡ zeros xs
-counted [] = refl
-counted (x ∷ xs) = ap (λ n. cond (x == 0) 1 0 + n) (counted xs) ∙ sym (sum_by-cons (λ v. cond (v == 0) 1 0) x xs)
-
--- the number of zeros is determined by which values are 0
-zeros_by_tests : (xs ys : List ℕ) → map (λ v. v == 0) xs ≡ map (λ v. v == 0) ys → zeros xs ≡ zeros ys
-zeros_by_tests xs ys e = sym (counted xs) ∙ ap (λ bs. sum_l (map (λ b. cond {A = ℕ} b 1 0) bs)) e ∙ counted ys
-
--- the difference of the byte before each of sixteen lanes and the greatest byte that has none of the register's bits
-abbrev upper_lanes : List ℕ → List ℕ
-upper_lanes xs = zip2 (λ a b. a - b) (pick_l 0 (xs ++ xs) (15 ∷ 0 ∷ 1 ∷ 2 ∷ 3 ∷ 4 ∷ 5 ∷ 6 ∷ 7 ∷ 8 ∷ 9 ∷ 10 ∷ 11 ∷ 12 ∷ 13 ∷ 14 ∷ [])) (belows 4)
-
--- the lanes of sixteen bytes; a lane is 0 if its register is
-abbrev tested_lanes : List ℕ → List ℕ
-tested_lanes xs = zip2 bit_or (upper_lanes xs) (zip2 bit_and xs (lowers 4))
-
-length-upper_lanes : (xs : List ℕ) → length xs ≡ 16 → length (upper_lanes xs) ≡ 16
-length-upper_lanes xs e = length-zip2 (λ a b. a - b) (pick_l 0 (xs ++ xs) (15 ∷ 0 ∷ 1 ∷ 2 ∷ 3 ∷ 4 ∷ 5 ∷ 6 ∷ 7 ∷ 8 ∷ 9 ∷ 10 ∷ 11 ∷ 12 ∷ 13 ∷ 14 ∷ [])) (belows 4) refl
-
-length-tested_lanes : (xs : List ℕ) → length xs ≡ 16 → length (tested_lanes xs) ≡ 16
-length-tested_lanes xs e =
-    let here : List ℕ = zip2 bit_and xs (lowers 4) in
-    let few : length here ≡ 16 = length-zip2 bit_and xs (lowers 4) e ∙ e in
-    length-zip2 bit_or (upper_lanes xs) here (length-upper_lanes xs e ∙ sym few) ∙ length-upper_lanes xs e
-
-pub nonzeros_of_fields : (xs : List ℕ) → length xs ≡ 16 → Each1 (λ x. x < 256) xs → sum_l (nonzero_lanes 16 (tested_lanes xs)) + zeros (fields_of xs) ≡ 16
-nonzeros_of_fields xs e k =
-    let same : zeros (tested_lanes xs) ≡ zeros (fields_of xs) = zeros_by_tests (tested_lanes xs) (fields_of xs)
-    (ap (λ us. map (λ v. v == 0) (zip2 bit_or us (zip2 bit_and xs (lowers 4)))) (before_lanes (λ a b. a - b) xs e)
-    ∙ zero_lanes 4 (get_or xs 15 0) xs e (Each1-get_or (λ x. x < 256) xs 15 0 (omega (arith, e)) k) k) in
-    omega (arith, same, nonzeros_by_lanes 16 (tested_lanes xs) (length-tested_lanes xs e))
-
--- the saturating difference of values
-pub saturated : (xs ys : List ℕ) → length xs ≡ length ys → Each1 (λ x. x < 256) xs → Each1 (λ y. y < 256) ys →
-    zip2 (λ a b. (a + (256 - b)) % 256) (sel_l (map (top 7) (zip2 (λ a b. cond (nat_lt a b) 255 0) xs ys)) ys xs) ys ≡ zip2 (λ a b. a - b) xs ys
-saturated [] [] e h k = refl
-saturated [] (y ∷ ys) e h k = absurd (omega arith)
-saturated (x ∷ xs) [] e h k = absurd (omega arith)
-saturated (x ∷ xs) (y ∷ ys) e h k = λ i. (ap (λ z. (z + (256 - y)) % 256) (greater x y) ∙ above x y h.0 k.0) i ∷ saturated xs ys (omega arith) h.1 k.1 i
+-- four registers of each group, a byte each
+pub fields_of-spread : (xs : List ℕ) → length xs ≡ 64 → Each1 (λ x. x < 256) xs → digits_l 256 64 (number_l 65536 (spread_pairs 16 (pairs_of xs))) ≡ fields_of_pairs xs
+fields_of-spread xs e h =
+    let small : (n : ℕ) → n % 65536 < 65536 = λ n. omega arith in
+    digits_bytes 64 (spread_pairs 16 (pairs_of xs)) (omega (arith, length-spread 16 xs e))
+    (Each1-zip2 (λ a b. (a + b) % 65536) (λ w. w < 65536) _ _ (Each2-all (λ a b. (a + b) % 65536 < 65536) (λ a b. small (a + b)) _ _))
+    ∙ bytes_of-spread 16 xs e h
 
 -- ---- fields of bytes
 

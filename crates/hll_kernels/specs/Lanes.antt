@@ -21,17 +21,19 @@ abbrev pub words_of : List ℕ → List ℕ
 words_of (a ∷ b ∷ c ∷ d ∷ rest) = (a + 256 * b + 65536 * c + 16777216 * d) ∷ words_of rest
 words_of _ = []
 
--- the four bytes of each 32-bit number, the lowest byte first
-abbrev pub bytes_of : List ℕ → List ℕ
-bytes_of [] = []
-bytes_of (w ∷ ws) = (w % 256) ∷ (w / 256 % 256) ∷ (w / 65536 % 256) ∷ (w / 16777216 % 256) ∷ bytes_of ws
+-- ---- 16-bit numbers
+
+-- each two bytes as a 16-bit number, the lower byte first
+abbrev pub pairs_of : List ℕ → List ℕ
+pairs_of (a ∷ b ∷ rest) = (a + 256 * b) ∷ pairs_of rest
+pairs_of _ = []
 
 -- ---- 6-bit registers
 
--- the four registers in the first three of each four bytes
-abbrev pub fields_of : List ℕ → List ℕ
-fields_of (a ∷ b ∷ c ∷ d ∷ rest) = let g = a + 256 * b + 65536 * c in (g % 64) ∷ (g / 64 % 64) ∷ (g / 4096 % 64) ∷ (g / 262144) ∷ fields_of rest
-fields_of _ = []
+-- the four registers of each group whose three bytes are two pairs: the first and second byte, and the second and third
+abbrev pub fields_of_pairs : List ℕ → List ℕ
+fields_of_pairs (a ∷ b ∷ c ∷ d ∷ rest) = (a % 64) ∷ ((a + 256 * b) / 64 % 64) ∷ ((c + 256 * d) / 16 % 64) ∷ (d / 4) ∷ fields_of_pairs rest
+fields_of_pairs _ = []
 
 -- each four registers as one number, the first in the lowest six bits
 abbrev pub numbers_of : List ℕ → List ℕ

@@ -1,17 +1,17 @@
 // SPDX-License-Identifier: Apache-2.0
 //! 6-bit registers: groups of four registers in three bytes (docs/FORMAT.md, "Packed registers").
-ghost use Rattle.std.specs.Prelude.{◌≡◌, ℕ, ◌+◌, ◌-◌, ◌*◌, ◌/◌, ◌%◌, ◌^◌, ◌<◌, ◌≤◌, ◌==◌, [], ◌∷◌, ◌++◌, length, map, take, slice_index, slice_set, All, IfOk};
+ghost use Rattle.std.specs.Prelude.{◌≡◌, ℕ, ◌+◌, ◌-◌, ◌*◌, ◌/◌, ◌%◌, ◌^◌, ◌<◌, ◌≤◌, ◌==◌, [], ◌∷◌, ◌++◌, length, map, take, drop, slice_index, slice_set, All, IfOk};
 ghost use Rattle.std.specs.List.{list_all, flat_map};
-ghost use Rattle.std.specs.Simd.Lanes.{chunk, put_chunk, sum_l, zip2};
+ghost use Rattle.std.specs.Simd.Lanes.{chunk, put_chunk};
 ghost use Rattle.hll_base.specs.Join.{join};
 ghost use Rattle.hll_kernels.specs.Groups.{IsGroup, group_fields, registers_in};
-ghost use Rattle.hll_kernels.specs.Lanes.{max_at, words_of, bytes_of, fields_of, numbers_of, groups_of};
+ghost use Rattle.hll_kernels.specs.Lanes.{max_at, words_of, fields_of_pairs, numbers_of, groups_of};
 ghost use Rattle.hll_kernels.specs.Packed as packed;
 ghost use Rattle.hll_kernels.specs.Packed.{fields, field_bytes, group_bytes, zeros};
 ghost use Rattle.hll_kernels.specs.WeightSums.{AreSumsOf};
 
 use crate::kernels::{
-    RunningSums, WeightSums, all_zero, count_zeros, max_16, max_one, weight_sums,
+    RunningSums, WeightSums, all_zero, count_zeros, max_64, max_one, weight_sums, zero_lanes,
 };
 use std::alloc::{AllocError, Allocator};
 use std::simd::prelude::*;
@@ -19,14 +19,11 @@ use std::simd::prelude::*;
 /// The mask of a 6-bit register.
 const FIELD: u32 = 0x3f;
 
-/// For the byte before each byte of a 32-bit lane: its greatest value whose bits that belong to the register there are
-/// 0.
-const BELOW: [u8; 16] = [
-    255, 63, 15, 3, 255, 63, 15, 3, 255, 63, 15, 3, 255, 63, 15, 3,
+/// For each pair of bytes of a group: the factor after which its registers are its high twelve bits.
+const FACTORS: [u16; 32] = [
+    16, 1, 16, 1, 16, 1, 16, 1, 16, 1, 16, 1, 16, 1, 16, 1, 16, 1, 16, 1, 16, 1, 16, 1, 16, 1, 16,
+    1, 16, 1, 16, 1,
 ];
-
-/// For each byte of a 32-bit lane: the mask of the bits that are the low bits of the register there.
-const LOWER: [u8; 16] = [63, 15, 3, 0, 63, 15, 3, 0, 63, 15, 3, 0, 63, 15, 3, 0];
 
 // ---- one group
 
@@ -221,12 +218,6 @@ fn words_in(bytes: u8x16) -> u32x4
     u32x4::from_le_bytes(bytes)
 }
 
-fn bytes_in(words: u32x4) -> u8x16
-    ensures { result ≡ bytes_of words }
-{
-    words.to_le_bytes()
-}
-
 /// Returns six bits of each 32-bit lane, starting at bit `from`.
 fn field(words: u32x4, from: u32) -> u32x4
     requires { from ≤ 24 }
@@ -285,52 +276,99 @@ fn max_with_block(values: &mut [u8], at: usize, block: &[u8; 48])
     requires { at + 64 ≤ length values.old }
     ensures { values.new ≡ max_at at values.old (fields block.now) }
 {
-    max_16(values, at, fields_at(block, 0));
-    max_16(values, at + 16, fields_at(block, 12));
-    max_16(values, at + 32, fields_at(block, 24));
-    max_16(values, at + 48, last_fields(block));
+    max_64(values, at, fields_in(block));
 }
 
-/// Returns the registers of the four groups from byte `at` on.
-fn fields_at(block: &[u8; 48], at: usize) -> u8x16
+// ---- unpacking sixteen groups
+
+/// Returns the registers of sixteen groups.
+#[inline(always)]
+fn fields_in(block: &[u8; 48]) -> u8x64
+    ensures { result ≡ fields block.now }
+{
+    spread(pairs_in(block))
+}
+
+/// Returns sixteen groups, each as two pairs of bytes: the first and second byte, and the second and third.
+#[inline(always)]
+fn pairs_in(block: &[u8; 48]) -> u8x64
+    ensures { fields_of_pairs result ≡ fields block.now }
+{
+    let low = joined(pairs_at(block, 0), pairs_at(block, 12));
+    let high = joined(pairs_at(block, 24), pairs_at_end(block));
+    low.shuffle(
+        high,
+        [
+            0, 1, 2, 3, 4, 5, 6, 7, 8, 9, 10, 11, 12, 13, 14, 15, 16, 17, 18, 19, 20, 21, 22, 23,
+            24, 25, 26, 27, 28, 29, 30, 31, 32, 33, 34, 35, 36, 37, 38, 39, 40, 41, 42, 43, 44, 45,
+            46, 47, 48, 49, 50, 51, 52, 53, 54, 55, 56, 57, 58, 59, 60, 61, 62, 63,
+        ],
+    )
+}
+
+/// Returns the lanes of both.
+#[inline(always)]
+fn joined(lanes: u8x16, others: u8x16) -> u8x32
+    ensures { result ≡ lanes ++ others }
+{
+    lanes.shuffle(
+        others,
+        [
+            0, 1, 2, 3, 4, 5, 6, 7, 8, 9, 10, 11, 12, 13, 14, 15, 16, 17, 18, 19, 20, 21, 22, 23,
+            24, 25, 26, 27, 28, 29, 30, 31,
+        ],
+    )
+}
+
+/// Returns the four groups from byte `at` on, each as two pairs of bytes.
+#[inline(always)]
+fn pairs_at(block: &[u8; 48], at: usize) -> u8x16
     requires { at ≤ 32 }
-    ensures { result ≡ fields (chunk at 12 block.now) }
+    ensures fields { fields_of_pairs result ≡ fields (chunk at 12 block.now) }
+    ensures lanes { length result ≡ 16 }
 {
-    spread(words_at(block, at))
+    first_pairs(u8x16::from_slice(&block[at..]))
 }
 
-/// Returns the registers of the last four groups.
-fn last_fields(block: &[u8; 48]) -> u8x16
-    ensures { result ≡ fields (chunk 36 12 block.now) }
+/// Returns the last four groups of a block, each as two pairs of bytes.
+#[inline(always)]
+fn pairs_at_end(block: &[u8; 48]) -> u8x16
+    ensures fields { fields_of_pairs result ≡ fields (chunk 36 12 block.now) }
+    ensures lanes { length result ≡ 16 }
 {
-    spread(last_words(block))
+    last_pairs(u8x16::from_slice(&block[32..]))
 }
 
-/// Returns the four groups from byte `at` on, each followed by a fourth byte.
-fn words_at(block: &[u8; 48], at: usize) -> u8x16
-    requires { at ≤ 32 }
-    ensures { fields_of result ≡ fields (chunk at 12 block.now) }
+/// Returns the four groups in the first twelve lanes, each as two pairs of bytes.
+#[inline(always)]
+fn first_pairs(bytes: u8x16) -> u8x16
+    ensures fields { fields_of_pairs result ≡ fields (take 12 bytes) }
+    ensures lanes { length result ≡ 16 }
 {
-    let bytes = u8x16::from_slice(&block[at..]);
-    bytes.swizzle([0, 1, 2, 2, 3, 4, 5, 5, 6, 7, 8, 8, 9, 10, 11, 11])
+    bytes.swizzle([0, 1, 1, 2, 3, 4, 4, 5, 6, 7, 7, 8, 9, 10, 10, 11])
 }
 
-/// Returns the last four groups, each followed by a fourth byte.
-fn last_words(block: &[u8; 48]) -> u8x16
-    ensures { fields_of result ≡ fields (chunk 36 12 block.now) }
+/// Returns the four groups in the last twelve lanes, each as two pairs of bytes.
+#[inline(always)]
+fn last_pairs(bytes: u8x16) -> u8x16
+    ensures fields { fields_of_pairs result ≡ fields (take 12 (drop 4 bytes)) }
+    ensures lanes { length result ≡ 16 }
 {
-    let bytes = u8x16::from_slice(&block[32..]);
-    bytes.swizzle([4, 5, 6, 6, 7, 8, 9, 9, 10, 11, 12, 12, 13, 14, 15, 15])
+    bytes.swizzle([4, 5, 5, 6, 7, 8, 8, 9, 10, 11, 11, 12, 13, 14, 14, 15])
 }
 
-/// Returns the registers that are in the first three of each four bytes. The fourth may be any byte.
-fn spread(bytes: u8x16) -> u8x16
-    ensures { result ≡ fields_of bytes }
+/// Returns the registers of groups whose bytes are two pairs.
+///
+/// A pair is a 16-bit number. Its registers are its low twelve bits in the first pair of a group, and its high twelve bits in
+/// the second. Times 16, the first are the high twelve bits, too.
+#[inline(always)]
+fn spread(pairs: u8x64) -> u8x64
+    ensures { result ≡ fields_of_pairs pairs }
 {
-    let words = words_in(bytes);
-    let low = field(words, 0) + (field(words, 6) << u32x4::splat(8));
-    let high = (field(words, 12) << u32x4::splat(16)) + (field(words, 18) << u32x4::splat(24));
-    bytes_in(low + high)
+    let aligned = u16x32::from_le_bytes(pairs) * u16x32::from_array(FACTORS);
+    let low = aligned >> u16x32::splat(4) & u16x32::splat(63);
+    let high = aligned >> u16x32::splat(10) << u16x32::splat(8);
+    (low + high).to_le_bytes()
 }
 
 // ---- zeros and weights
@@ -361,7 +399,7 @@ fn zero_fields(bytes: &[u8]) -> usize
     let (blocks, rest) = bytes.as_chunks::<48>();
     let mut count = 0;
     for block in blocks {
-        count += zero_fields_in(block) as usize;
+        count += zero_lanes(fields_in(block)) as usize;
     }
     count + zero_fields_one_by_one(rest)
 }
@@ -375,60 +413,6 @@ fn zero_fields_one_by_one(bytes: &[u8]) -> usize
 {
     let registers = unpacked(bytes);
     count_zeros(&registers[..bytes.len() / 3 * 4])
-}
-
-/// Returns the number of registers that are 0 in sixteen groups.
-fn zero_fields_in(block: &[u8; 48]) -> u32
-    ensures count { result ≡ zeros (fields block.now) }
-    ensures bound { result ≤ 64 }
-{
-    let first = nonzero_fields(words_at(block, 0));
-    let second = nonzero_fields(words_at(block, 12));
-    let third = nonzero_fields(words_at(block, 24));
-    let fourth = nonzero_fields(last_words(block));
-    let nonzeros = added(added(first, second), added(third, fourth));
-    64 - u32::from(lane_sum(nonzeros))
-}
-
-/// Returns lanes of 1 for registers that are not 0, and of 0 for the others. The registers are in the first three of
-/// each four bytes. The fourth may be any byte.
-///
-/// Each lane stands for one register. The register is 0 if its low bits, which are in the byte of the lane, are 0, and
-/// its high bits, which are in the byte before, are 0 as well.
-#[inline(always)]
-fn nonzero_fields(bytes: u8x16) -> u8x16
-    ensures { sum_l result + zeros (fields_of bytes) ≡ 16 }
-{
-    let before = bytes.rotate_elements_right::<1>();
-    let upper = saturating_difference(before, u8x16::from_array(BELOW));
-    let lower = bytes & u8x16::from_array(LOWER);
-    (upper | lower).simd_min(u8x16::splat(1))
-}
-
-/// Returns the difference of the bytes at each index, or 0 if the second is greater.
-#[inline(always)]
-fn saturating_difference(bytes: u8x16, others: u8x16) -> u8x16
-    ensures { result ≡ zip2 (λ a b. a - b) bytes others }
-{
-    bytes.saturating_sub(others)
-}
-
-/// Returns the sums of lanes at the same index.
-#[inline(always)]
-fn added(lanes: u8x16, others: u8x16) -> u8x16
-    requires { sum_l lanes + sum_l others < 256 }
-    ensures { sum_l result ≡ sum_l lanes + sum_l others }
-{
-    lanes.strict_add(others)
-}
-
-/// Returns the sum of the lanes. It has to fit a byte.
-#[inline(always)]
-fn lane_sum(lanes: u8x16) -> u8
-    requires { sum_l lanes < 256 }
-    ensures { result ≡ sum_l lanes }
-{
-    lanes.strict_reduce_sum()
 }
 
 /// Returns the sums of 2^-v over the registers v. One pass over at most 2^19 groups.
@@ -448,9 +432,41 @@ fn field_sums(bytes: &[u8]) -> WeightSums
     let (blocks, rest) = bytes.as_chunks::<48>();
     let mut sums = RunningSums::new();
     for block in blocks {
-        sums.add(&unpacked_block(block));
+        sums.add(fields_in(block));
     }
     sums.total().plus(field_sums_one_by_one(rest))
+}
+
+/// Returns the number of registers that are 0, and the sums of 2^-v over the registers v. One pass over at most 2^19 groups.
+pub fn zeros_and_sums_in(groups: &[[u8; 3]]) -> (usize, WeightSums)
+    requires { length groups.now ≤ 2 ^ 19 }
+    ensures zeros { result.0 ≡ zeros (registers_in groups.now) }
+    ensures bound { result.0 ≤ 4 * length groups.now }
+    ensures sums { AreSumsOf result.1 (registers_in groups.now) }
+{
+    zeros_and_field_sums(groups.as_flattened())
+}
+
+/// Returns the number of registers that are 0 in the bytes of groups, and the sums of the weights of the registers, sixteen groups
+/// at a time.
+fn zeros_and_field_sums(bytes: &[u8]) -> (usize, WeightSums)
+    requires whole { length bytes.now % 3 ≡ 0 }
+    requires few { length bytes.now ≤ 3 * 2 ^ 19 }
+    ensures zeros { result.0 ≡ zeros (fields bytes.now) }
+    ensures sums { AreSumsOf result.1 (fields bytes.now) }
+{
+    let (blocks, rest) = bytes.as_chunks::<48>();
+    let mut count = 0;
+    let mut sums = RunningSums::new();
+    for block in blocks {
+        let registers = fields_in(block);
+        count += zero_lanes(registers) as usize;
+        sums.add(registers);
+    }
+    (
+        count + zero_fields_one_by_one(rest),
+        sums.total().plus(field_sums_one_by_one(rest)),
+    )
 }
 
 /// Returns the sums of the weights of the registers of at most 15 groups.
@@ -461,15 +477,6 @@ fn field_sums_one_by_one(bytes: &[u8]) -> WeightSums
 {
     let registers = unpacked(bytes);
     weight_sums(&registers[..bytes.len() / 3 * 4])
-}
-
-/// Returns the registers of sixteen groups.
-fn unpacked_block(block: &[u8; 48]) -> [u8; 64]
-    ensures { result ≡ fields block.now }
-{
-    let mut registers = [0; 64];
-    max_with_block(&mut registers, 0, block);
-    registers
 }
 
 /// Returns the registers of at most 15 groups, followed by zeros.

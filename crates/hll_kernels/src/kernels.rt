@@ -1,7 +1,7 @@
 // SPDX-License-Identifier: Apache-2.0
 //! Loops over the bytes of registers: with SIMD lanes, and byte by byte for what is left after the last full block.
 //! None of them allocates.
-ghost use Rattle.std.specs.Prelude.{◌≡◌, ℕ, ◌+◌, ◌-◌, ◌*◌, ◌/◌, ◌%◌, ◌^◌, ◌<◌, ◌≤◌, ◌==◌, nat_le, nat_lt, not, List, [], ◌∷◌, ◌++◌, count_by, length, map, slice_index, All};
+ghost use Rattle.std.specs.Prelude.{◌≡◌, ℕ, ◌+◌, ◌-◌, ◌*◌, ◌/◌, ◌%◌, ◌^◌, ◌<◌, ◌≤◌, ◌==◌, nat_le, nat_lt, not, List, [], ◌∷◌, ◌++◌, count_by, length, map, slice_index, slice_set, All};
 ghost use Rattle.std.specs.List.{list_all};
 ghost use Rattle.std.specs.Simd.Lanes.{mask_l, sum_l};
 ghost use Rattle.hll_base.specs.Join.{join};
@@ -37,19 +37,19 @@ pub fn max_into(dst: &mut [u8], src: &[u8])
 {
     let (blocks, rest) = src.as_chunks::<64>();
     for place in 0..blocks.len() {
-        max_64(dst, 64 * place, &blocks[place]);
+        max_64(dst, 64 * place, u8x64::from_array(blocks[place]));
     }
     max_one_by_one(&mut dst[64 * blocks.len()..], rest);
 }
 
-/// Sets the 64 bytes from `at` on to the maximum of themselves and the bytes of a block.
-fn max_64(dst: &mut [u8], at: usize, block: &[u8; 64])
+/// Sets the 64 bytes from `at` on to the maximum of themselves and the lanes.
+#[inline(always)]
+pub(crate) fn max_64(dst: &mut [u8], at: usize, lanes: u8x64)
     requires { at + 64 ≤ length dst.old }
-    ensures { dst.new ≡ max_at at dst.old block.now }
+    ensures { dst.new ≡ max_at at dst.old lanes }
 {
     let old = u8x64::from_slice(&dst[at..]);
-    let raised = old.simd_max(u8x64::from_array(*block));
-    raised.copy_to_slice(&mut dst[at..]);
+    old.simd_max(lanes).copy_to_slice(&mut dst[at..]);
 }
 
 /// Sets the sixteen bytes from `at` on to the maximum of themselves and the lanes.
@@ -100,6 +100,15 @@ fn zeros_in(block: &[u8; 128]) -> usize
     let first = nonzero_lanes(u8x64::from_slice(&block[..]));
     let second = nonzero_lanes(u8x64::from_slice(&block[64..]));
     usize::from(128 - sum_of_both(first, second))
+}
+
+/// Returns the number of lanes that are 0.
+#[inline(always)]
+pub(crate) fn zero_lanes(lanes: u8x64) -> u32
+    ensures count { result ≡ zeros lanes }
+    ensures bound { result ≤ 64 }
+{
+    64 - u32::from(nonzero_lanes(lanes).strict_reduce_sum())
 }
 
 /// Returns lanes of 1 for the lanes that are not 0, and of 0 for the others.
@@ -266,6 +275,25 @@ impl WeightSums {
     }
 }
 
+impl WeightSums {
+    /// Returns the sums after one of the registers became `new`, which was `old` before.
+    ///
+    /// There are at most 2^21 registers, each at most 63.
+    pub fn replaced(self, old: u8, new: u8) -> WeightSums
+        requires { (R : List ℕ) × (slot : ℕ) × AreSumsOf self R × (slot < length R) × (slice_index R slot ≡ old) × (length R ≤ 2 ^ 21) × (new ≤ 63) × (old ≤ 63) }
+        ensures sums { (R : List ℕ) (slot : ℕ) → AreSumsOf self R → slot < length R → slice_index R slot ≡ old → AreSumsOf result (slice_set R slot new) }
+        ensures low { result.low < 2 ^ 53 }
+        ensures high { result.high < 2 ^ 53 }
+    {
+        let old = value_sums(old);
+        let new = value_sums(new);
+        WeightSums {
+            low: self.low - old.low + new.low,
+            high: self.high - old.high + new.high,
+        }
+    }
+}
+
 /// The sums of 2^-v over values v that come in blocks. The values of blocks in which all are below 16 are summed in lanes: the
 /// upper bytes of 2^(15 - v), and the lower ones.
 #[derive(Clone, Copy)]
@@ -288,23 +316,23 @@ impl RunningSums {
         }
     }
 
-    /// Adds the values of a block, each at most 63. There are at most 2^21 values in all.
+    /// Adds 64 values, each at most 63. There are at most 2^21 values in all.
     ///
-    /// In most blocks no value is above 15.
+    /// Most often none of the 64 is above 15.
     #[inline(always)]
-    pub(crate) fn add(&mut self, block: &[u8; 64])
-        requires small { All (λ v. v ≤ 63) block.now }
+    pub(crate) fn add(&mut self, values: u8x64)
+        requires small { All (λ v. v ≤ 63) values }
         requires few { (R : List ℕ) × AreRunningSums self.old R × (length R + 64 ≤ 2 ^ 21) }
-        ensures { (R : List ℕ) → AreRunningSums self.old R → AreRunningSums self.new (R ++ block.now) }
+        ensures { (R : List ℕ) → AreRunningSums self.old R → AreRunningSums self.new (R ++ values) }
     {
-        if are_below(block, 16) {
-            let values = u8x64::from_array(*block);
+        if are_below(&values.to_array(), 16) {
             let upper = halves_added(byte_sums(upper_bytes(values)));
             let lower = halves_added(byte_sums(lower_bytes(values)));
             self.upper = lanes_added(self.upper, upper);
             self.lower = lanes_added(self.lower, lower);
         } else {
-            self.others = self.others.plus(block_sums_above_least(block));
+            let sums = block_sums_above_least(&values.to_array());
+            self.others = self.others.plus(sums);
         }
     }
 
@@ -363,7 +391,7 @@ pub fn weight_sums(bytes: &[u8]) -> WeightSums
     let (blocks, rest) = bytes.as_chunks::<64>();
     let mut sums = RunningSums::new();
     for block in blocks {
-        sums.add(block);
+        sums.add(u8x64::from_array(*block));
     }
     sums.total().plus(weight_sums_one_by_one(rest))
 }

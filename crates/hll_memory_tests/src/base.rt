@@ -15,8 +15,7 @@ enum BufferCall {
     WriteU32,
     WriteU64,
     Write,
-    WriteHeader,
-    WritePreamble,
+    StartImage,
 }
 
 /// The preamble of an image of registers.
@@ -53,13 +52,9 @@ impl<'h> Trial for BufferTrial<'h> {
             BufferCall::WriteU32 => shown(heap, bytes.write_u32_le(0x0504_0302)),
             BufferCall::WriteU64 => shown(heap, bytes.write_u64_le(0x0908_0706_0504_0302)),
             BufferCall::Write => shown(heap, bytes.write(&[2, 3, 4])),
-            BufferCall::WriteHeader => {
+            BufferCall::StartImage => {
                 let header = HllHeader::plain(4, HllType::Hll8);
-                shown(heap, PREAMBLE.write_header(bytes, header))
-            }
-            BufferCall::WritePreamble => {
-                let written = SketchBytes::with_capacity(heap, self.capacity)?;
-                shown(heap, PREAMBLE.write(written))
+                shown(heap, PREAMBLE.start_image(heap, header, self.capacity))
             }
         }
     }
@@ -70,15 +65,14 @@ impl<'h> Trial for BufferTrial<'h> {
 }
 
 /// The calls, and the requests of each on a full buffer, and on a buffer with room.
-const BUFFERS: [(BufferCall, [u64; 2]); 7] = [
+const BUFFERS: [(BufferCall, [u64; 2]); 6] = [
     (BufferCall::WithCapacity, [1, 1]),
     (BufferCall::WriteU8, [1, 0]),
     (BufferCall::WriteU32, [1, 0]),
     (BufferCall::WriteU64, [1, 0]),
     (BufferCall::Write, [1, 0]),
-    (BufferCall::WriteHeader, [1, 0]),
-    // a buffer of one byte grows to 8, 16 and 32
-    (BufferCall::WritePreamble, [4, 1]),
+    // a buffer of one byte grows to 40
+    (BufferCall::StartImage, [2, 1]),
 ];
 
 #[test]

@@ -6,8 +6,8 @@ use hll_base::error::Error;
 use hll_base::hll_type::HllType;
 use hll_sketch::coupon_images::coupon_image_with;
 use hll_sketch::{
-    HllSketch, HllUnion, agree, coupon_image_at, held_register_image, register_image_at, union_of,
-    union_of_coupon_images, union_of_one_coupon_image,
+    HllSketch, HllUnion, agree, coupon_image_at, union_of, union_of_coupon_images,
+    union_of_one_coupon_image,
 };
 use hll_text::fault::Fault;
 use std::alloc::Global;
@@ -32,8 +32,6 @@ enum UnionCall {
     ImageTwice,
     ImageAt,
     ImageWith,
-    RegistersAt,
-    RegistersWith,
 }
 
 /// A call on a union with a bound, of one 8-bit sketch, and on another sketch of some width.
@@ -132,11 +130,6 @@ impl<'h> UnionTrial<'h> {
                 let mut more = [coupon_at(self.inside.2).raw()];
                 shown(heap, coupon_image_with(heap, image, &mut more))
             }
-            UnionCall::RegistersAt => shown(heap, register_image_at(heap, self.hll_type, image)),
-            UnionCall::RegistersWith => {
-                let held = [coupon_at(self.incoming.1).raw()];
-                shown(heap, held_register_image(heap, image, &held))
-            }
             _ => shown(heap, coupon_image_at(heap, self.hll_type, image)),
         }
     }
@@ -194,9 +187,7 @@ impl<'h> Trial for UnionTrial<'h> {
             UnionCall::ImageOnce
             | UnionCall::ImageTwice
             | UnionCall::ImageAt
-            | UnionCall::ImageWith
-            | UnionCall::RegistersAt
-            | UnionCall::RegistersWith => self.image_made(image),
+            | UnionCall::ImageWith => self.image_made(image),
             UnionCall::UpdateBuckets => {
                 let image = with_all_buckets(self.heap.inner(), image)?;
                 shown(self.heap, union.update_with_image(&image))
@@ -238,7 +229,7 @@ const UNIONS: [(u8, Shape, Shape); 13] = [
 ];
 
 /// The calls, and the requests of each on these unions, for 4-bit, 6-bit and 8-bit registers.
-const UNION_CALLS: [(UnionCall, [[u64; 13]; 3]); 18] = [
+const UNION_CALLS: [(UnionCall, [[u64; 13]; 3]); 16] = [
     (
         UnionCall::Clone,
         [[0, 0, 0, 0, 0, 0, 0, 1, 1, 1, 1, 1, 1]; 3],
@@ -312,22 +303,6 @@ const UNION_CALLS: [(UnionCall, [[u64; 13]; 3]); 18] = [
     (
         UnionCall::ImageWith,
         [[2, 2, 2, 2, 2, 2, 0, 0, 0, 2, 0, 0, 0]; 3],
-    ),
-    (
-        UnionCall::RegistersAt,
-        [
-            [0; 13],
-            [0, 0, 0, 0, 0, 0, 1, 1, 1, 0, 1, 1, 1],
-            [0, 0, 0, 0, 0, 0, 1, 1, 1, 0, 1, 1, 1],
-        ],
-    ),
-    (
-        UnionCall::RegistersWith,
-        [
-            [0; 13],
-            [0, 0, 0, 0, 0, 0, 1, 1, 1, 0, 1, 1, 1],
-            [0, 0, 0, 0, 0, 0, 1, 1, 1, 0, 1, 1, 1],
-        ],
     ),
 ];
 

@@ -7,6 +7,7 @@ pub mod FourBitChanges
 pub mod FourBitReading
 pub mod FourBitStores
 pub mod FourBits
+pub mod ImageParts
 pub mod Marked
 pub mod Packing
 pub mod RaisedEntries

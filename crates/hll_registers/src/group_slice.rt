@@ -1,22 +1,21 @@
 // SPDX-License-Identifier: Apache-2.0
 //! A slice of groups of three bytes as 6-bit registers.
-ghost use Rattle.std.specs.Prelude.{◌≡◌, ◌≤◌, ◌==◌, ◌↔◌, IsTrue, IfOk, IfErr};
+ghost use Rattle.std.specs.Prelude.{◌≡◌, ◌^◌, ◌<◌, ◌≤◌, ◌==◌, ◌↔◌, IsTrue, slice_set};
 ghost use Rattle.std.specs.List.{list_all};
-ghost use Rattle.hll_base.specs.declared.error.Reason.TheVariants.{Memory};
 ghost use Rattle.hll_kernels.specs.Groups.{registers_in, AreGroups};
 ghost use Rattle.hll_kernels.specs.Packed.{zeros};
+ghost use Rattle.hll_kernels.specs.WeightSums.{AreSumsOf};
+ghost use Rattle.hll_registers.specs.EstimatorFields.{AreEstimatorFields};
 ghost use Rattle.hll_registers.specs.Payload.{hll6_bytes};
 ghost use Rattle.hll_registers.specs.State.{cleared_state, IsState};
 
 use crate::estimate_state::EstimateState;
-use crate::plain_images::six_bit_image;
+use crate::image_parts::ImageParts;
 use crate::registers::{Registers, two_to};
-use hll_base::error::Error;
 use hll_kernels::groups::{
-    all_zero_in, count_zeros_in, max_groups_into, register_at, weight_sums_in,
+    all_zero_in, count_zeros_in, max_groups_into, register_at, weight_sums_in, zeros_and_sums_in,
 };
 use hll_kernels::kernels::WeightSums;
-use std::alloc::Allocator;
 use std::marker::Model;
 
 /// 2^`lg_k` borrowed registers, four of them in three bytes, with their estimate state.
@@ -63,19 +62,38 @@ impl<'a> GroupSlice<'a> {
         GroupSlice { state, ..self }
     }
 
-    /// Returns the image of these registers with another state (docs/FORMAT.md, "What is written"). One pass that
-    /// counts zeros, and a copy.
-    ///
-    /// Fails with `Memory` if an allocation fails.
-    pub fn image_with<A: Allocator>(
-        &self,
-        alloc: A,
-        state: EstimateState,
-    ) -> Result<Vec<u8, A>, Error>
-        ensures ok { IfOk result (λ image. image.items ≡ hll6_bytes self.now.lg_k self.now.registers state) }
-        ensures err { IfErr result (λ e. e ≡ Memory) }
+    /// Returns the image of these registers with another state (docs/FORMAT.md, "What is written"), in parts. One pass that
+    /// counts zeros.
+    pub fn image_parts(&self, state: EstimateState) -> ImageParts<'a>
+        ensures { result ≡ hll6_bytes self.now.lg_k self.now.registers state }
     {
-        six_bit_image(alloc, self.lg_k, self.groups, self.num_zeros(), state)
+        ImageParts::of_groups(self.lg_k, self.groups, self.num_zeros(), state)
+    }
+
+    /// Returns the image of these registers with the register of a slot raised to a value, and its estimator fields set, in parts.
+    /// One pass that counts zeros and sums weights.
+    ///
+    /// `slot` is below 2^`lg_k`, and `value` is 1 to 63.
+    pub fn raised_parts(&self, slot: usize, value: u8) -> ImageParts<'a>
+        requires slot { slot < 2 ^ self.now.lg_k }
+        requires least { 1 ≤ value }
+        requires most { value ≤ 63 }
+        ensures { (state : EstimateState) × AreEstimatorFields (slice_set self.now.registers slot value) state × (result ≡ hll6_bytes self.now.lg_k (slice_set self.now.registers slot value) state) }
+    {
+        let old = register_at(self.groups, slot);
+        let (zeros, sums) = self.zeros_and_sums();
+        let zeros = zeros - u32::from(old == 0);
+        let state = EstimateState::of_sums(sums.replaced(old, value));
+        ImageParts::replacing_field(self.lg_k, self.groups, slot, value, zeros, state)
+    }
+
+    /// Returns the number of registers that are 0, and the sums of 2^-v over the registers v. One pass.
+    pub fn zeros_and_sums(&self) -> (u32, WeightSums)
+        ensures zeros { result.0 ≡ zeros self.now.registers }
+        ensures sums { AreSumsOf result.1 self.now.registers }
+    {
+        let (zeros, sums) = zeros_and_sums_in(self.groups);
+        (zeros as u32, sums)
     }
 
     /// Returns the number of registers that are 0. One pass.

@@ -9,6 +9,7 @@ pub mod exception_map;
 mod exception_maxima;
 pub mod folds;
 pub mod group_slice;
+pub mod image_parts;
 pub mod nibble_parts;
 pub mod nibble_registers;
 pub mod nibble_slice;

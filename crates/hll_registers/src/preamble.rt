@@ -1,6 +1,8 @@
 // SPDX-License-Identifier: Apache-2.0
 //! The estimate state and counts that precede the registers in an image (docs/FORMAT.md, "HLL").
 ghost use Rattle.std.specs.Prelude.{◌≡◌, ◌+◌, ◌≤◌, ◌<◌, ◌∷◌, [], ◌++◌, length, drop, OnOk, OnErr, IfOk, IfErr};
+ghost use Rattle.std.specs.Int.{to_le_bytes, w32};
+ghost use Rattle.std.specs.List.{flat_map};
 ghost use Rattle.hll_base.specs.declared.error.Reason.TheVariants.{Truncated, Memory};
 ghost use Rattle.hll_coupons.specs.Coupons.{mode_byte};
 ghost use Rattle.hll_registers.specs.State.{IsState};
@@ -79,20 +81,51 @@ impl Preamble {
         Ok((preamble, cursor))
     }
 
-    /// Returns `bytes` with the preamble appended.
-    ///
-    /// Allocates if the buffer has no room. Fails with `Memory` if the allocation fails.
-    pub fn write<A: Allocator>(self, mut bytes: SketchBytes<A>) -> Result<SketchBytes<A>, Error>
-        ensures ok { IfOk result (λ new. new ≡ bytes ++ number_bytes self.state self.num_at_cur_min self.exception_count) }
-        ensures err { IfErr result (λ e. e ≡ Memory) }
+    /// Returns the first 40 bytes of an image: header and preamble, in eights.
+    pub fn start(self, header: HllHeader) -> [[u8; 8]; 5]
+        requires { header.flags < 128 }
+        ensures bytes { flat_map (λ b. b) result ≡ 10 ∷ 1 ∷ 7 ∷ header.lg_config_k ∷ 0 ∷ (header.flags + flag_of self.state) ∷ header.minimum ∷ mode_byte 2 header.hll_type ∷ number_bytes self.state self.num_at_cur_min self.exception_count }
+        ensures size { length (flat_map (λ b. b) result) ≡ 40 }
     {
         let [first, second, third] = self.state.words;
-        bytes.write_u64_le(first)?;
-        bytes.write_u64_le(second)?;
-        bytes.write_u64_le(third)?;
-        bytes.write_u32_le(self.num_at_cur_min)?;
-        bytes.write_u32_le(self.exception_count)?;
-        Ok(bytes)
+        [
+            self.header_bytes(header),
+            first.to_le_bytes(),
+            second.to_le_bytes(),
+            third.to_le_bytes(),
+            self.count_bytes(),
+        ]
+    }
+
+    /// Returns the header of an image.
+    fn header_bytes(self, header: HllHeader) -> [u8; 8]
+        requires { header.flags < 128 }
+        ensures { result ≡ 10 ∷ 1 ∷ 7 ∷ header.lg_config_k ∷ 0 ∷ (header.flags + flag_of self.state) ∷ header.minimum ∷ mode_byte 2 header.hll_type ∷ [] }
+    {
+        let flag = if self.state.out_of_order {
+            OUT_OF_ORDER_FLAG_MASK
+        } else {
+            0
+        };
+        [
+            HLL_PREINTS,
+            SERIAL_VERSION,
+            Family::HLL.id,
+            header.lg_config_k,
+            0,
+            header.flags + flag,
+            header.minimum,
+            encode_mode_byte(CUR_MODE_HLL, header.hll_type as u8),
+        ]
+    }
+
+    /// Returns the two counts.
+    fn count_bytes(self) -> [u8; 8]
+        ensures { result ≡ to_le_bytes w32 self.num_at_cur_min ++ to_le_bytes w32 self.exception_count }
+    {
+        let [a, b, c, d] = self.num_at_cur_min.to_le_bytes();
+        let [e, f, g, h] = self.exception_count.to_le_bytes();
+        [a, b, c, d, e, f, g, h]
     }
 
     /// Returns the first 40 bytes of an image, header and preamble, in a buffer with room for `capacity` bytes.
@@ -109,37 +142,7 @@ impl Preamble {
         ensures err { IfErr result (λ e. e ≡ Memory) }
     {
         let mut bytes = SketchBytes::with_capacity(alloc, capacity)?;
-        self.write_header(&mut bytes, header)?;
-        self.write(bytes)
-    }
-
-    /// Appends the header of an image.
-    ///
-    /// Allocates if the buffer has no room. Fails with `Memory` if the allocation fails; then the buffer is unchanged.
-    pub fn write_header<A: Allocator>(
-        self,
-        bytes: &mut SketchBytes<A>,
-        header: HllHeader,
-    ) -> Result<(), Error>
-        requires { header.flags < 128 }
-        ensures ok { OnOk result (bytes.new ≡ bytes.old ++ 10 ∷ 1 ∷ 7 ∷ header.lg_config_k ∷ 0 ∷ (header.flags + flag_of self.state) ∷ header.minimum ∷ mode_byte 2 header.hll_type ∷ []) }
-        ensures unchanged { OnErr result (bytes.new ≡ bytes.old) }
-        ensures err { IfErr result (λ e. e ≡ Memory) }
-    {
-        let flag = if self.state.out_of_order {
-            OUT_OF_ORDER_FLAG_MASK
-        } else {
-            0
-        };
-        bytes.write(&[
-            HLL_PREINTS,
-            SERIAL_VERSION,
-            Family::HLL.id,
-            header.lg_config_k,
-            0,
-            header.flags + flag,
-            header.minimum,
-            encode_mode_byte(CUR_MODE_HLL, header.hll_type as u8),
-        ])
+        bytes.write(self.start(header).as_flattened())?;
+        Ok(bytes)
     }
 }

@@ -1,18 +1,16 @@
 // SPDX-License-Identifier: Apache-2.0
 //! A slice of bytes as registers.
-ghost use Rattle.std.specs.Prelude.{◌≡◌, ◌≤◌, ◌==◌, ◌↔◌, IsTrue, IfOk, IfErr};
+ghost use Rattle.std.specs.Prelude.{◌≡◌, ◌^◌, ◌<◌, ◌≤◌, ◌==◌, ◌↔◌, IsTrue, slice_set};
 ghost use Rattle.std.specs.List.{list_all};
-ghost use Rattle.hll_base.specs.declared.error.Reason.TheVariants.{Memory};
+ghost use Rattle.hll_registers.specs.EstimatorFields.{AreEstimatorFields};
 ghost use Rattle.hll_registers.specs.Payload.{hll8_bytes};
 ghost use Rattle.hll_registers.specs.State.{cleared_state, IsState};
 ghost use Rattle.hll_kernels.specs.Packed.{AreRegisters, zeros};
 
 use crate::estimate_state::EstimateState;
-use crate::plain_images::eight_bit_image;
+use crate::image_parts::ImageParts;
 use crate::registers::Registers;
-use hll_base::error::Error;
 use hll_kernels::kernels::{WeightSums, all_zero, count_zeros, max_into, weight_sums};
-use std::alloc::Allocator;
 use std::marker::Model;
 
 /// 2^`lg_k` borrowed registers, one byte each, with their estimate state.
@@ -56,19 +54,29 @@ impl<'a> RegisterSlice<'a> {
         RegisterSlice { state, ..self }
     }
 
-    /// Returns the image of these registers with another state (docs/FORMAT.md, "What is written"). One pass that
-    /// counts zeros, and a copy.
-    ///
-    /// Fails with `Memory` if an allocation fails.
-    pub fn image_with<A: Allocator>(
-        &self,
-        alloc: A,
-        state: EstimateState,
-    ) -> Result<Vec<u8, A>, Error>
-        ensures ok { IfOk result (λ image. image.items ≡ hll8_bytes self.now.lg_k self.now.registers state) }
-        ensures err { IfErr result (λ e. e ≡ Memory) }
+    /// Returns the image of these registers with another state (docs/FORMAT.md, "What is written"), in parts. One pass that
+    /// counts zeros.
+    pub fn image_parts(&self, state: EstimateState) -> ImageParts<'a>
+        ensures { result ≡ hll8_bytes self.now.lg_k self.now.registers state }
     {
-        eight_bit_image(alloc, self.lg_k, self.values, self.num_zeros(), state)
+        ImageParts::of_bytes(self.lg_k, self.values, self.num_zeros(), state)
+    }
+
+    /// Returns the image of these registers with the register of a slot raised to a value, and its estimator fields set, in parts.
+    /// Two passes: one counts zeros, one sums weights.
+    ///
+    /// `slot` is below 2^`lg_k`, and `value` is 1 to 63.
+    pub fn raised_parts(&self, slot: usize, value: u8) -> ImageParts<'a>
+        requires slot { slot < 2 ^ self.now.lg_k }
+        requires least { 1 ≤ value }
+        requires most { value ≤ 63 }
+        ensures { (state : EstimateState) × AreEstimatorFields (slice_set self.now.registers slot value) state × (result ≡ hll8_bytes self.now.lg_k (slice_set self.now.registers slot value) state) }
+    {
+        let old = self.values[slot];
+        let zeros = self.num_zeros() - u32::from(old == 0);
+        let sums = weight_sums(self.values).replaced(old, value);
+        let state = EstimateState::of_sums(sums);
+        ImageParts::replacing_byte(self.lg_k, self.values, slot, value, zeros, state)
     }
 
     /// Returns the number of registers that are 0. One pass.

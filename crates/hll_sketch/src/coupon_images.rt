@@ -129,9 +129,29 @@ pub fn union_of_one_coupon_image<A: Allocator>(
     ensures read { OnErr result (IsLgK lg_max_k × (x : Sketch) × IsReadAs image.now x) }
     ensures err { IfErr result (λ e. e ≡ Memory) }
 {
-    if let Some(ordered) = ascending_image(image) {
-        return union_of_one_ordered(alloc, lg_max_k, hll_type, ordered);
+    if says_registers(image) {
+        return Ok(None);
     }
+    match ascending_image(image) {
+        Some(ordered) => union_of_one_ordered(alloc, lg_max_k, hll_type, ordered),
+        None => union_of_one_sorted(alloc, lg_max_k, hll_type, image),
+    }
+}
+
+/// Does what `union_of_one_coupon_image` does, and sorts the coupons if they don't ascend.
+// (not inlined: a caller that had the room among its own values would make it for ascending coupons too)
+#[inline(never)]
+fn union_of_one_sorted<A: Allocator>(
+    alloc: A,
+    lg_max_k: u8,
+    hll_type: HllType,
+    image: &[u8],
+) -> Result<Option<Vec<u8, A>>, Error>
+    ensures some { IfOk result (λ found. IfSome found (λ written. IsImageOfUnionOfOne lg_max_k hll_type image.now written.items)) }
+    ensures none { IfOk result (λ found. IfNone found (HasCouponsAt lg_max_k image.now → ⊥)) }
+    ensures read { OnErr result (IsLgK lg_max_k × (x : Sketch) × IsReadAs image.now x) }
+    ensures err { IfErr result (λ e. e ≡ Memory) }
+{
     let mut room = CouponRoom::new();
     match ordered_image(image, &mut room) {
         Some(ordered) => union_of_one_ordered(alloc, lg_max_k, hll_type, ordered),
@@ -266,9 +286,28 @@ pub fn coupon_image_at<A: Allocator>(
     ensures read { OnErr result ((x : Sketch) × IsReadAs image.now x) }
     ensures err { IfErr result (λ e. e ≡ Memory) }
 {
-    if let Some(ordered) = ascending_image(image) {
-        return Ok(Some(ordered_image_at(alloc, hll_type, ordered)?));
+    if says_registers(image) {
+        return Ok(None);
     }
+    match ascending_image(image) {
+        Some(ordered) => Ok(Some(ordered_image_at(alloc, hll_type, ordered)?)),
+        None => sorted_image_at(alloc, hll_type, image),
+    }
+}
+
+/// Does what `coupon_image_at` does, and sorts the coupons if they don't ascend.
+// (not inlined: a caller that had the room among its own values would make it for ascending coupons too)
+#[inline(never)]
+fn sorted_image_at<A: Allocator>(
+    alloc: A,
+    hll_type: HllType,
+    image: &[u8],
+) -> Result<Option<Vec<u8, A>>, Error>
+    ensures some { IfOk result (λ found. IfSome found (λ written. IsImageAt hll_type image.now written.items)) }
+    ensures none { IfOk result (λ found. IfNone found (HasEvidentCoupons image.now → ⊥)) }
+    ensures read { OnErr result ((x : Sketch) × IsReadAs image.now x) }
+    ensures err { IfErr result (λ e. e ≡ Memory) }
+{
     let mut room = CouponRoom::new();
     match ordered_image(image, &mut room) {
         Some(ordered) => Ok(Some(ordered_image_at(alloc, hll_type, ordered)?)),

@@ -11,6 +11,7 @@ use crate::borrowed_image::BorrowedImage;
 use crate::sketch::HllSketch;
 use hll_arrays::registers::Registers;
 use hll_registers::estimate_state::EstimateState;
+use hll_registers::group_slice::GroupSlice;
 use hll_registers::registers::units_of;
 use std::alloc::Allocator;
 
@@ -54,9 +55,7 @@ impl<'a, A: Allocator> BorrowedImage<'a, A> {
             BorrowedImage::Nibbles(registers) => {
                 Totals::Registers(totals_of(registers, registers.num_zeros()))
             }
-            BorrowedImage::Groups(registers) => {
-                Totals::Registers(totals_of(registers, registers.num_zeros()))
-            }
+            BorrowedImage::Groups(registers) => Totals::Registers(totals_of_groups(registers)),
             BorrowedImage::Bytes(registers) => {
                 Totals::Registers(totals_of(registers, registers.num_zeros()))
             }
@@ -90,6 +89,22 @@ fn totals_of<R: Registers>(source: &R, zeros: u32) -> RegisterTotals
     RegisterTotals {
         zeros,
         units: units_of(source),
+        state: source.estimate_state(),
+    }
+}
+
+/// Returns totals of 6-bit registers. One pass.
+fn totals_of_groups(source: &GroupSlice<'_>) -> RegisterTotals
+    ensures zeros { result.zeros ≡ packed.zeros source.now.registers }
+    ensures sum { result.units ≡ packed.units source.now.registers }
+    ensures state { result.state ≡ source.now.state }
+    ensures legal { packed.AreRegisters source.now.lg_k source.now.registers }
+{
+    let _lg_k = source.lg_k();
+    let (zeros, sums) = source.zeros_and_sums();
+    RegisterTotals {
+        zeros,
+        units: sums.units(),
         state: source.estimate_state(),
     }
 }

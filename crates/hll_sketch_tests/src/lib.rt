@@ -11,6 +11,8 @@ mod folds;
 #[cfg(test)]
 mod images;
 #[cfg(test)]
+mod register_images;
+#[cfg(test)]
 mod sketches;
 #[cfg(test)]
 mod unions;

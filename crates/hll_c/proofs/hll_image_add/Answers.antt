@@ -3,11 +3,12 @@ use Rattle.std.proofs.Common.{length}
 use Rattle.hll_c.specs.Answers.{WithFields, RefusesWith}
 use Rattle.hll_c.specs.Batches.{AreEnds}
 use Rattle.hll_c.specs.Calls.{IsMadeOf, HasValues}
+use Rattle.hll_c.specs.Written.{bytes_of}
 use Rattle.hll_c.proofs.Answers.{answers_with}
 use Rattle.hll_c.proofs.hll_image_add.Goals as goal
 
 pub returns : goal.returns
 returns c =
-    answers_with (λ v. v.items) c.with_values.result (WithFields (IsMadeOf c.args.image.now (HasValues c.args.values.now c.args.ends.now)))
+    answers_with bytes_of c.with_values.result (WithFields (IsMadeOf c.args.image.now (HasValues c.args.values.now c.args.ends.now)))
     (RefusesWith (AreEnds (length c.args.values.now) c.args.ends.now) c.args.image.now)
-    c.args.out.now c.put_bytes.new.out c.args.size.now c.put_bytes.new.size c.put_bytes.result c.with_values.ensures.ok c.with_values.ensures.err c.put_bytes.ensures
+    c.args.out.now c.put_written.new.out c.args.size.now c.put_written.new.size c.put_written.result c.with_values.ensures.ok c.with_values.ensures.err c.put_written.ensures

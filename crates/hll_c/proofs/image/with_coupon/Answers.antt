@@ -1,14 +1,13 @@
 -- SPDX-License-Identifier: Apache-2.0
 use Rattle.std.proofs.Common.{◌≡◌, ℕ, [], ◌∷◌, ap, subst, ◌∙◌, arith}
 use Rattle.std.specs.Option.{IfSome}
-use Rattle.std.proofs.lemmas.Result.{IfOk-weaker, IfErr-weaker}
 use Rattle.hll_base.proofs.Errors.{IfErr-passed}
 use Rattle.hll_coupons.specs.Pair.{pair, set_of, slot_of}
 use Rattle.hll_sketch.specs.Adding.{add}
 use Rattle.hll_sketch.specs.CouponImages.{IsImageWith}
 use Rattle.hll_sketch.specs.Layout.{sketch_of}
 use Rattle.hll_sketch.specs.RegisterImages.{IsFilledImageWith}
-use Rattle.hll_c.specs.Answers.{IsImageOf, WithFields, RefusesWith, image_refused}
+use Rattle.hll_c.specs.Answers.{RefusesWith, image_refused}
 use Rattle.hll_c.specs.Calls.{AreOfCoupon, HasCoupon, IsMadeOf}
 use Rattle.hll_c.proofs.Answers.{made_with_fields}
 use Rattle.hll_c.proofs.Batches.{not_so}
@@ -35,30 +34,32 @@ returns-in-Some-clause-ok c =
     coupon_in_bytes c.args.slot c.args.value c.raw.result c.args.image.now c.in-Some.written.items (c.are_of_coupon.ensures.0 c.if-not-are_of_coupon.false) (c.raw.ensures ∙ packed c.args.slot c.args.value c.pack-coupon.result (c.are_of_coupon.ensures.0 c.if-not-are_of_coupon.false) c.pack-coupon.ensures)
     (subst (λ o. IfSome o (λ written. IsImageWith (c.raw.result ∷ []) c.args.image.now written.items)) c.in-Some.is c.in_ok-written.ensures.some)
 
-pub returns-in_err-written-2-clause-err : goal.returns-in_err-written-2-clause-err
-returns-in_err-written-2-clause-err c =
-    let e = c.in_err-written-2 in
-    IfErr-passed (RefusesWith (AreOfCoupon c.args.slot c.args.value) c.args.image.now) c.from_residual-in_err-written-2.result e.field-0.0 c.from_residual-in_err-written-2.ensures.1
-    (image_refused (c.are_of_coupon.ensures.0 c.if-not-are_of_coupon.false) (refuses_memory c.args.image.now e.ensures.read.0 e.field-0.0 e.ensures.read.1 e.ensures.err))
+pub returns-in-Some-register_image_with-clause-ok : goal.returns-in-Some-register_image_with-clause-ok
+returns-in-Some-register_image_with-clause-ok c =
+    let found = c.in-Some-register_image_with in
+    coupon_in_registers c.args.slot c.args.value c.raw-2.result c.args.image.now found.parts (c.are_of_coupon.ensures.0 c.if-not-are_of_coupon.false) (c.raw-2.ensures ∙ packed c.args.slot c.args.value c.pack-coupon.result (c.are_of_coupon.ensures.0 c.if-not-are_of_coupon.false) c.pack-coupon.ensures)
+    (subst (λ o. IfSome o (λ parts. IsFilledImageWith (c.raw-2.result ∷ []) c.args.image.now parts)) found.is c.register_image_with.ensures)
 
-pub returns-in-Some-2-clause-ok : goal.returns-in-Some-2-clause-ok
-returns-in-Some-2-clause-ok c =
-    coupon_in_registers c.args.slot c.args.value c.raw-2.result c.args.image.now c.in-Some-2.written.items (c.are_of_coupon.ensures.0 c.if-not-are_of_coupon.false) (c.raw-2.ensures ∙ packed c.args.slot c.args.value c.pack-coupon.result (c.are_of_coupon.ensures.0 c.if-not-are_of_coupon.false) c.pack-coupon.ensures)
-    (subst (λ o. IfSome o (λ written. IsFilledImageWith (c.raw-2.result ∷ []) c.args.image.now written.items)) c.in-Some-2.is c.in_ok-written-2.ensures.some)
-
-pub returns-in_err-sketch_with_coupon-in-None-clause-err : goal.returns-in_err-sketch_with_coupon-in-None-clause-err
-returns-in_err-sketch_with_coupon-in-None-clause-err c =
-    let e = c.in_err-sketch_with_coupon-in-None in
-    IfErr-passed (RefusesWith (AreOfCoupon c.args.slot c.args.value) c.args.image.now) c.from_residual-in_err-sketch_with_coupon-in-None.result e.field-0.0 c.from_residual-in_err-sketch_with_coupon-in-None.ensures.1
+pub returns-in_err-sketch-clause-err : goal.returns-in_err-sketch-clause-err
+returns-in_err-sketch-clause-err c =
+    let e = c.in_err-sketch in
+    IfErr-passed (RefusesWith (AreOfCoupon c.args.slot c.args.value) c.args.image.now) c.from_residual-in_err-sketch.result e.field-0.0 c.from_residual-in_err-sketch.ensures.1
     (image_refused (c.are_of_coupon.ensures.0 c.if-not-are_of_coupon.false) e.ensures.err)
 
-pub returns-in_ok-sketch_with_coupon-in-None-clause-ok : goal.returns-in_ok-sketch_with_coupon-in-None-clause-ok
-returns-in_ok-sketch_with_coupon-in-None-clause-ok c =
+pub returns-in_err-image_with_fields-clause-err : goal.returns-in_err-image_with_fields-clause-err
+returns-in_err-image_with_fields-clause-err c =
+    let e = c.in_err-image_with_fields in
+    let made = c.in_ok-sketch.ensures.ok in
+    IfErr-passed (RefusesWith (AreOfCoupon c.args.slot c.args.value) c.args.image.now) c.from_residual-in_err-image_with_fields.result e.field-0.0 c.from_residual-in_err-image_with_fields.ensures.1
+    (image_refused (c.are_of_coupon.ensures.0 c.if-not-are_of_coupon.false) (refuses_memory c.args.image.now made.sketch e.field-0.0 made.read e.ensures.err))
+
+pub returns-clause-ok : goal.returns-clause-ok
+returns-clause-ok c =
     let Made = IsMadeOf c.args.image.now (HasCoupon c.args.slot c.args.value) in
-    let y = sketch_of c.in_ok-sketch_with_coupon-in-None.field-0 in
-    let made = c.in_ok-sketch_with_coupon-in-None.ensures.ok in
-    IfOk-weaker c.image_with_fields.result _ (λ v. IsImageOf (WithFields Made) v.items)
-    (λ v is. made_with_fields Made y v.items
+    let sketch = c.in_ok-sketch in
+    let made = sketch.ensures.ok in
+    let image = c.in_ok-image_with_fields in
+    made_with_fields Made (sketch_of sketch.sketch) image.field-0.items
     (record {
       sketch = made.sketch;
       read = made.read;
@@ -67,12 +68,4 @@ returns-in_ok-sketch_with_coupon-in-None-clause-ok c =
         is = made.is_made ∙ ap (λ n. add made.sketch (set_of (n ∷ []))) (packed c.args.slot c.args.value c.pack-coupon.result (c.are_of_coupon.ensures.0 c.if-not-are_of_coupon.false) c.pack-coupon.ensures);
       };
     })
-    is)
-    c.image_with_fields.ensures.ok
-
-pub returns-in_ok-sketch_with_coupon-in-None-clause-err : goal.returns-in_ok-sketch_with_coupon-in-None-clause-err
-returns-in_ok-sketch_with_coupon-in-None-clause-err c =
-    let made = c.in_ok-sketch_with_coupon-in-None.ensures.ok in
-    IfErr-weaker c.image_with_fields.result _ (RefusesWith (AreOfCoupon c.args.slot c.args.value) c.args.image.now)
-    (λ e memory. image_refused (c.are_of_coupon.ensures.0 c.if-not-are_of_coupon.false) (refuses_memory c.args.image.now made.sketch e made.read memory))
-    c.image_with_fields.ensures.err
+    image.ensures.ok
