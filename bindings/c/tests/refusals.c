@@ -208,12 +208,22 @@ static int refuse_teller(const struct teller *teller, bytes image, long first)
     return 1;
 }
 
+/* Whether a call makes its image of one of registers of 8 or 6 bits without memory: with one more coupon, or at its own width. */
+static int makes_without_memory(writes *call, bytes image)
+{
+    unsigned stage = image.at[7] & 3, width = image.at[7] >> 2 & 3;
+    return stage == 2 && width != 0 && (call == call_add_coupon || (call == call_convert && width == 1));
+}
+
 static void refuse_each(const char *name, writes *call, bytes image)
 {
     long first = 0;
     while (refuse_writer(name, call, image, first))
         first++;
-    CHECK(first > 0 || call == call_new, "%s takes no memory, so nothing was tested", name);
+    if (makes_without_memory(call, image))
+        CHECK(first == 0, "%s takes memory", name);
+    else
+        CHECK(first > 0 || call == call_new, "%s takes no memory, so nothing was tested", name);
 }
 
 static void test_image(bytes image)
