@@ -10802,8 +10802,8 @@ main:
 	add	x20, x8, x20
 	cmp	x20, #5
 	b.ls	.LBB0d6e4079_127
-	adrp	x8, .Lswitch.table.main.236.rel
-	add	x8, x8, :lo12:.Lswitch.table.main.236.rel
+	adrp	x8, .Lswitch.table.main.235.rel
+	add	x8, x8, :lo12:.Lswitch.table.main.235.rel
 	adrp	x10, .Lswitch.table.main
 	add	x10, x10, :lo12:.Lswitch.table.main
 	ldrsw	x9, [x8, w24, uxtw #2]
@@ -11055,24 +11055,24 @@ main:
 	.xword	6
 	.size	.Lswitch.table.main, 104
 
-	.type	.Lswitch.table.main.236.rel,@object
-	.section	.rodata..Lswitch.table.main.236.rel,"a",@progbits
+	.type	.Lswitch.table.main.235.rel,@object
+	.section	.rodata..Lswitch.table.main.235.rel,"a",@progbits
 	.p2align	2, 0x0
-.Lswitch.table.main.236.rel:
-	.word	.Lstatic.14-.Lswitch.table.main.236.rel
-	.word	.Lstatic.15-.Lswitch.table.main.236.rel
-	.word	.Lstatic.16-.Lswitch.table.main.236.rel
-	.word	.Lstatic.17-.Lswitch.table.main.236.rel
-	.word	.Lstatic.18-.Lswitch.table.main.236.rel
-	.word	.Lstatic.19-.Lswitch.table.main.236.rel
-	.word	.Lstatic.20-.Lswitch.table.main.236.rel
-	.word	.Lstatic.21-.Lswitch.table.main.236.rel
-	.word	.Lstatic.22-.Lswitch.table.main.236.rel
-	.word	.Lstatic.23-.Lswitch.table.main.236.rel
-	.word	.Lstatic.24-.Lswitch.table.main.236.rel
-	.word	.Lstatic.25-.Lswitch.table.main.236.rel
-	.word	.Lstatic.10-.Lswitch.table.main.236.rel
-	.size	.Lswitch.table.main.236.rel, 52
+.Lswitch.table.main.235.rel:
+	.word	.Lstatic.14-.Lswitch.table.main.235.rel
+	.word	.Lstatic.15-.Lswitch.table.main.235.rel
+	.word	.Lstatic.16-.Lswitch.table.main.235.rel
+	.word	.Lstatic.17-.Lswitch.table.main.235.rel
+	.word	.Lstatic.18-.Lswitch.table.main.235.rel
+	.word	.Lstatic.19-.Lswitch.table.main.235.rel
+	.word	.Lstatic.20-.Lswitch.table.main.235.rel
+	.word	.Lstatic.21-.Lswitch.table.main.235.rel
+	.word	.Lstatic.22-.Lswitch.table.main.235.rel
+	.word	.Lstatic.23-.Lswitch.table.main.235.rel
+	.word	.Lstatic.24-.Lswitch.table.main.235.rel
+	.word	.Lstatic.25-.Lswitch.table.main.235.rel
+	.word	.Lstatic.10-.Lswitch.table.main.235.rel
+	.size	.Lswitch.table.main.235.rel, 52
 
 	.ident	"rattle logic=dac8208d650f15bf3e2dc313a14fa4c783a3acf887bdfab66e1714b038d9e11b"
 	.section	.note.GNU-stack,"",@progbits

@@ -19525,8 +19525,8 @@ main:
 	add	x20, x8, x20
 	cmp	x20, #5
 	b.ls	.LBB0d6e4079_183
-	adrp	x8, .Lswitch.table.main.324.rel
-	add	x8, x8, :lo12:.Lswitch.table.main.324.rel
+	adrp	x8, .Lswitch.table.main.323.rel
+	add	x8, x8, :lo12:.Lswitch.table.main.323.rel
 	adrp	x10, .Lswitch.table.main
 	add	x10, x10, :lo12:.Lswitch.table.main
 	ldrsw	x9, [x8, w23, uxtw #2]
@@ -21080,24 +21080,24 @@ main:
 	.xword	6
 	.size	.Lswitch.table.main, 104
 
-	.type	.Lswitch.table.main.324.rel,@object
-	.section	.rodata..Lswitch.table.main.324.rel,"a",@progbits
+	.type	.Lswitch.table.main.323.rel,@object
+	.section	.rodata..Lswitch.table.main.323.rel,"a",@progbits
 	.p2align	2, 0x0
-.Lswitch.table.main.324.rel:
-	.word	.Lstatic.20-.Lswitch.table.main.324.rel
-	.word	.Lstatic.21-.Lswitch.table.main.324.rel
-	.word	.Lstatic.22-.Lswitch.table.main.324.rel
-	.word	.Lstatic.23-.Lswitch.table.main.324.rel
-	.word	.Lstatic.24-.Lswitch.table.main.324.rel
-	.word	.Lstatic.25-.Lswitch.table.main.324.rel
-	.word	.Lstatic.26-.Lswitch.table.main.324.rel
-	.word	.Lstatic.27-.Lswitch.table.main.324.rel
-	.word	.Lstatic.28-.Lswitch.table.main.324.rel
-	.word	.Lstatic.5-.Lswitch.table.main.324.rel
-	.word	.Lstatic.29-.Lswitch.table.main.324.rel
-	.word	.Lstatic.30-.Lswitch.table.main.324.rel
-	.word	.Lstatic.17-.Lswitch.table.main.324.rel
-	.size	.Lswitch.table.main.324.rel, 52
+.Lswitch.table.main.323.rel:
+	.word	.Lstatic.20-.Lswitch.table.main.323.rel
+	.word	.Lstatic.21-.Lswitch.table.main.323.rel
+	.word	.Lstatic.22-.Lswitch.table.main.323.rel
+	.word	.Lstatic.23-.Lswitch.table.main.323.rel
+	.word	.Lstatic.24-.Lswitch.table.main.323.rel
+	.word	.Lstatic.25-.Lswitch.table.main.323.rel
+	.word	.Lstatic.26-.Lswitch.table.main.323.rel
+	.word	.Lstatic.27-.Lswitch.table.main.323.rel
+	.word	.Lstatic.28-.Lswitch.table.main.323.rel
+	.word	.Lstatic.5-.Lswitch.table.main.323.rel
+	.word	.Lstatic.29-.Lswitch.table.main.323.rel
+	.word	.Lstatic.30-.Lswitch.table.main.323.rel
+	.word	.Lstatic.17-.Lswitch.table.main.323.rel
+	.size	.Lswitch.table.main.323.rel, 52
 
 	.ident	"rattle logic=dac8208d650f15bf3e2dc313a14fa4c783a3acf887bdfab66e1714b038d9e11b"
 	.section	.note.GNU-stack,"",@progbits

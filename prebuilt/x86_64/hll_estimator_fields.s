@@ -586,7 +586,7 @@ hll_estimator_fields_program.main.start:
 	leaq	.Lswitch.table.hll_estimator_fields_program.main.start(%rip), %rax
 	movzbl	%bpl, %ecx
 	movq	(%rax,%rcx,8), %r14
-	leaq	.Lswitch.table.hll_estimator_fields_program.main.start.236.rel(%rip), %rax
+	leaq	.Lswitch.table.hll_estimator_fields_program.main.start.235.rel(%rip), %rax
 	movslq	(%rax,%rcx,4), %r15
 	addq	%rax, %r15
 	xorl	%r12d, %r12d
@@ -13313,24 +13313,24 @@ main:
 	.quad	6
 	.size	.Lswitch.table.hll_estimator_fields_program.main.start, 104
 
-	.type	.Lswitch.table.hll_estimator_fields_program.main.start.236.rel,@object
-	.section	.rodata..Lswitch.table.hll_estimator_fields_program.main.start.236.rel,"a",@progbits
+	.type	.Lswitch.table.hll_estimator_fields_program.main.start.235.rel,@object
+	.section	.rodata..Lswitch.table.hll_estimator_fields_program.main.start.235.rel,"a",@progbits
 	.p2align	2, 0x0
-.Lswitch.table.hll_estimator_fields_program.main.start.236.rel:
-	.long	.Lstatic.14-.Lswitch.table.hll_estimator_fields_program.main.start.236.rel
-	.long	.Lstatic.15-.Lswitch.table.hll_estimator_fields_program.main.start.236.rel
-	.long	.Lstatic.16-.Lswitch.table.hll_estimator_fields_program.main.start.236.rel
-	.long	.Lstatic.17-.Lswitch.table.hll_estimator_fields_program.main.start.236.rel
-	.long	.Lstatic.18-.Lswitch.table.hll_estimator_fields_program.main.start.236.rel
-	.long	.Lstatic.19-.Lswitch.table.hll_estimator_fields_program.main.start.236.rel
-	.long	.Lstatic.20-.Lswitch.table.hll_estimator_fields_program.main.start.236.rel
-	.long	.Lstatic.21-.Lswitch.table.hll_estimator_fields_program.main.start.236.rel
-	.long	.Lstatic.22-.Lswitch.table.hll_estimator_fields_program.main.start.236.rel
-	.long	.Lstatic.23-.Lswitch.table.hll_estimator_fields_program.main.start.236.rel
-	.long	.Lstatic.24-.Lswitch.table.hll_estimator_fields_program.main.start.236.rel
-	.long	.Lstatic.25-.Lswitch.table.hll_estimator_fields_program.main.start.236.rel
-	.long	.Lstatic.10-.Lswitch.table.hll_estimator_fields_program.main.start.236.rel
-	.size	.Lswitch.table.hll_estimator_fields_program.main.start.236.rel, 52
+.Lswitch.table.hll_estimator_fields_program.main.start.235.rel:
+	.long	.Lstatic.14-.Lswitch.table.hll_estimator_fields_program.main.start.235.rel
+	.long	.Lstatic.15-.Lswitch.table.hll_estimator_fields_program.main.start.235.rel
+	.long	.Lstatic.16-.Lswitch.table.hll_estimator_fields_program.main.start.235.rel
+	.long	.Lstatic.17-.Lswitch.table.hll_estimator_fields_program.main.start.235.rel
+	.long	.Lstatic.18-.Lswitch.table.hll_estimator_fields_program.main.start.235.rel
+	.long	.Lstatic.19-.Lswitch.table.hll_estimator_fields_program.main.start.235.rel
+	.long	.Lstatic.20-.Lswitch.table.hll_estimator_fields_program.main.start.235.rel
+	.long	.Lstatic.21-.Lswitch.table.hll_estimator_fields_program.main.start.235.rel
+	.long	.Lstatic.22-.Lswitch.table.hll_estimator_fields_program.main.start.235.rel
+	.long	.Lstatic.23-.Lswitch.table.hll_estimator_fields_program.main.start.235.rel
+	.long	.Lstatic.24-.Lswitch.table.hll_estimator_fields_program.main.start.235.rel
+	.long	.Lstatic.25-.Lswitch.table.hll_estimator_fields_program.main.start.235.rel
+	.long	.Lstatic.10-.Lswitch.table.hll_estimator_fields_program.main.start.235.rel
+	.size	.Lswitch.table.hll_estimator_fields_program.main.start.235.rel, 52
 
 	.ident	"rattle logic=dac8208d650f15bf3e2dc313a14fa4c783a3acf887bdfab66e1714b038d9e11b"
 	.section	.note.GNU-stack,"",@progbits

@@ -1178,7 +1178,7 @@ hll_program.main.start:
 	leaq	.Lswitch.table.hll_program.main.start(%rip), %rax
 	movzbl	24(%rsp), %ecx
 	movq	(%rax,%rcx,8), %r14
-	leaq	.Lswitch.table.hll_program.main.start.324.rel(%rip), %rax
+	leaq	.Lswitch.table.hll_program.main.start.323.rel(%rip), %rax
 	movslq	(%rax,%rcx,4), %r15
 	addq	%rax, %r15
 	xorl	%r12d, %r12d
@@ -27582,24 +27582,24 @@ main:
 	.quad	6
 	.size	.Lswitch.table.hll_program.main.start, 104
 
-	.type	.Lswitch.table.hll_program.main.start.324.rel,@object
-	.section	.rodata..Lswitch.table.hll_program.main.start.324.rel,"a",@progbits
+	.type	.Lswitch.table.hll_program.main.start.323.rel,@object
+	.section	.rodata..Lswitch.table.hll_program.main.start.323.rel,"a",@progbits
 	.p2align	2, 0x0
-.Lswitch.table.hll_program.main.start.324.rel:
-	.long	.Lstatic.20-.Lswitch.table.hll_program.main.start.324.rel
-	.long	.Lstatic.21-.Lswitch.table.hll_program.main.start.324.rel
-	.long	.Lstatic.22-.Lswitch.table.hll_program.main.start.324.rel
-	.long	.Lstatic.23-.Lswitch.table.hll_program.main.start.324.rel
-	.long	.Lstatic.24-.Lswitch.table.hll_program.main.start.324.rel
-	.long	.Lstatic.25-.Lswitch.table.hll_program.main.start.324.rel
-	.long	.Lstatic.26-.Lswitch.table.hll_program.main.start.324.rel
-	.long	.Lstatic.27-.Lswitch.table.hll_program.main.start.324.rel
-	.long	.Lstatic.28-.Lswitch.table.hll_program.main.start.324.rel
-	.long	.Lstatic.5-.Lswitch.table.hll_program.main.start.324.rel
-	.long	.Lstatic.29-.Lswitch.table.hll_program.main.start.324.rel
-	.long	.Lstatic.30-.Lswitch.table.hll_program.main.start.324.rel
-	.long	.Lstatic.17-.Lswitch.table.hll_program.main.start.324.rel
-	.size	.Lswitch.table.hll_program.main.start.324.rel, 52
+.Lswitch.table.hll_program.main.start.323.rel:
+	.long	.Lstatic.20-.Lswitch.table.hll_program.main.start.323.rel
+	.long	.Lstatic.21-.Lswitch.table.hll_program.main.start.323.rel
+	.long	.Lstatic.22-.Lswitch.table.hll_program.main.start.323.rel
+	.long	.Lstatic.23-.Lswitch.table.hll_program.main.start.323.rel
+	.long	.Lstatic.24-.Lswitch.table.hll_program.main.start.323.rel
+	.long	.Lstatic.25-.Lswitch.table.hll_program.main.start.323.rel
+	.long	.Lstatic.26-.Lswitch.table.hll_program.main.start.323.rel
+	.long	.Lstatic.27-.Lswitch.table.hll_program.main.start.323.rel
+	.long	.Lstatic.28-.Lswitch.table.hll_program.main.start.323.rel
+	.long	.Lstatic.5-.Lswitch.table.hll_program.main.start.323.rel
+	.long	.Lstatic.29-.Lswitch.table.hll_program.main.start.323.rel
+	.long	.Lstatic.30-.Lswitch.table.hll_program.main.start.323.rel
+	.long	.Lstatic.17-.Lswitch.table.hll_program.main.start.323.rel
+	.size	.Lswitch.table.hll_program.main.start.323.rel, 52
 
 	.ident	"rattle logic=dac8208d650f15bf3e2dc313a14fa4c783a3acf887bdfab66e1714b038d9e11b"
 	.section	.note.GNU-stack,"",@progbits

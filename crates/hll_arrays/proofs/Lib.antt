@@ -1,4 +1,5 @@
 -- SPDX-License-Identifier: Apache-2.0
+pub mod Elements
 pub mod Entries
 pub mod EntryReading
 pub mod FewExceptions

@@ -118,7 +118,7 @@ pub(crate) fn with_coupon(
     if let Some(written) = coupon_image_with(alloc, image, &mut [coupon.raw()])? {
         return Ok(Written::Bytes(written));
     }
-    if let Some(parts) = register_image_with(&alloc, image, &[coupon.raw()]) {
+    if let Some(parts) = register_image_with(image, &[coupon.raw()]) {
         return Ok(Written::Parts(parts));
     }
     let sketch = sketch_with_coupon(alloc, image, coupon)?;
@@ -160,17 +160,16 @@ pub(crate) fn with_values<'a>(
     if let Some(written) = coupon_image_with_values(alloc, image, values, ends)? {
         return Ok(Written::Bytes(written));
     }
-    if let Some(parts) = register_image_with_values(alloc, image, values, ends) {
+    if let Some(parts) = register_image_with_values(image, values, ends) {
         return Ok(Written::Parts(parts));
     }
     let sketch = sketch_with_values(alloc, image, values, ends)?;
     Ok(Written::Bytes(image_with_fields(sketch)?))
 }
 
-/// Returns an image of registers with the coupons of at most `FEW` byte strings, if its registers hold them all or there is one.
-/// Returns `None` for more strings, or if `register_image_with` returns `None`.
+/// Returns an image of 8-bit or 6-bit registers with the coupons of at most `FEW` byte strings, if its registers hold them all or
+/// there is one. Returns `None` for more strings, or if `register_image_with` returns `None`.
 fn register_image_with_values<'a>(
-    alloc: Global,
     image: &'a [u8],
     values: &[u8],
     ends: &[usize],
@@ -183,7 +182,7 @@ fn register_image_with_values<'a>(
     }
     let mut raw_coupons = [0; FEW];
     put_each(values, 0, ends, &mut raw_coupons);
-    register_image_with(&alloc, image, &raw_coupons[..ends.len()])
+    register_image_with(image, &raw_coupons[..ends.len()])
 }
 
 /// Returns an image of coupons with the coupons of 1 to `BLOCK` byte strings, without making a table. Returns `None` for
@@ -273,7 +272,7 @@ pub(crate) fn converted(alloc: Global, image: &[u8], width: u32) -> Result<Writt
     if let Some(written) = coupon_image_at(alloc, hll_type, image)? {
         return Ok(Written::Bytes(written));
     }
-    if let Some(parts) = register_image_at(&alloc, hll_type, image)? {
+    if let Some(parts) = register_image_at(hll_type, image)? {
         return Ok(Written::Parts(parts));
     }
     let sketch = sketch_at(alloc, image, hll_type)?;

@@ -141,8 +141,7 @@ pub extern "C" fn hll_image_new(
 ///
 /// Returns `Argument` if ends descend or an end is after the last byte of `values`, the reason of the first check that the
 /// image fails, or `Memory`. Allocates its sketch and the written image; nothing if an image of 8-bit or 6-bit registers gets
-/// one value, or up to 16 that change no register. Then an image of 4-bit registers that this library wrote mostly needs no more
-/// than a map for its exceptions.
+/// one value, or up to 16 that change no register.
 #[unsafe(no_mangle)]
 pub extern "C" fn hll_image_add(
     alloc: Global,
@@ -160,8 +159,7 @@ pub extern "C" fn hll_image_add(
 /// Writes the image with one more coupon into `out`: a slot below 2^26, and a value from 1 to 63.
 ///
 /// Returns `Argument` if the slot or the value is out of range, the reason of the first check that the image fails, or
-/// `Memory`. Allocates its sketch and the written image; nothing for an image of 8-bit or 6-bit registers. An image of 4-bit
-/// registers that this library wrote mostly needs no more than a map for its exceptions.
+/// `Memory`. Allocates its sketch and the written image; nothing for an image of 8-bit or 6-bit registers.
 #[unsafe(no_mangle)]
 pub extern "C" fn hll_image_add_coupon(
     alloc: Global,
@@ -271,7 +269,7 @@ pub extern "C" fn hll_image_fold(
 ///
 /// Returns `Argument` if `width` is not 0, 4, 6 or 8, the reason of the first check that the image fails, or `Memory`.
 /// Allocates its sketch, for another width also a sketch of that width, and the written image; nothing for an image of 8-bit or
-/// 6-bit registers at its own width, and no more than a map of exceptions for one of 4-bit registers that this library wrote.
+/// 6-bit registers at its own width.
 #[unsafe(no_mangle)]
 pub extern "C" fn hll_image_convert(
     alloc: Global,

@@ -8,7 +8,7 @@ ghost use Rattle.hll_state.specs.CouponRun.{raws};
 
 use crate::elements::sort;
 use crate::merge::{dedup, merge};
-use hll_coupons::raw_coupons::ascends;
+use hll_sketch::ascends;
 
 /// Sorts the first `used` coupons, of which the first `run` are meant to ascend. Returns the number of distinct coupons, which
 /// ascend in the first elements afterwards.
