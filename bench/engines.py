@@ -8,8 +8,9 @@ all processors, in PostgreSQL with 0 and 3 workers, and by Dask with 1 to 4 work
 The images are 100,000 distinct ones of lg_k 12 at 8, 6 and 4 bits, and as many of 20 values each, whose coupons ascend,
 or are in the order of their tables ("in table order"), as other libraries write them. They are compared with
 postgresql-hll, where it is installed, on sketches of the same registers at 5 bits, and of as many values. Contestants
-take turns, and each number is the median over the rounds; so is each ratio, over the ratios of the rounds. In PostgreSQL
-the time of a scan alone (`count`) is taken off. Dask reads a folder of 20,000 files, and so does the process that it is compared with.
+take turns, and each number is from the least time over the rounds, which differs little between runs, even on a machine
+that other programs use too. In PostgreSQL the least time of a scan alone (`count`) is taken off. Dask reads a folder of
+20,000 files, and so does the process that it is compared with.
 
 Needs bindings/c built, a PostgreSQL server with its headers, and for Dask a Python with `distributed`; what is missing is
 left out. The random numbers are the same at each run. Prints tables for docs/NUMBERS.md.
@@ -24,7 +25,6 @@ import multiprocessing
 import os
 import pathlib
 import random
-import statistics
 import struct
 import sys
 import tempfile
@@ -99,12 +99,12 @@ def table(columns, rows):
 
 def rate(count, times):
     """So many a second, to three digits."""
-    value = count / statistics.median(times)
+    value = count / min(times)
     return "{:,.0f}".format(round(value, 2 - int(math.log10(value))))
 
 
 def ratio(firsts, seconds_of):
-    return "%.2f" % statistics.median(a / b for a, b in zip(firsts, seconds_of))
+    return "%.2f" % (min(firsts) / min(seconds_of))
 
 
 # ---- one process and all processors
@@ -301,7 +301,7 @@ def query_of(what, kind):
 
 
 def milliseconds(times):
-    return "%.0f" % (1000 * statistics.median(times))
+    return "%.0f" % (1000 * min(times))
 
 
 def measure_queries(arguments, session, has_peer):
@@ -313,7 +313,7 @@ def measure_queries(arguments, session, has_peer):
 
     def net(kind, workers):
         """Without the scan."""
-        return [max(whole - scan, 1e-6) for whole, scan in zip(times[kind, workers, "union"], times[kind, workers, "scan"])]
+        return [max(min(times[kind, workers, "union"]) - min(times[kind, workers, "scan"]), 1e-6)]
     rows = []
     for kind in kinds(has_peer):
         row = [NAMES[kind]]
@@ -382,7 +382,7 @@ def main():
     parser = argparse.ArgumentParser(description="Measures how many images a second are joined.")
     parser.add_argument("--images", type=int, default=100000)
     parser.add_argument("--files", type=int, default=20000)
-    parser.add_argument("--runs", type=int, default=5)
+    parser.add_argument("--runs", type=int, default=15)
     parser.add_argument("parts", nargs="*", metavar="PART", help=", ".join(PARTS))
     arguments = parser.parse_args()
     print("%s, %d processors\n" % (machine(), os.cpu_count()))

@@ -194,10 +194,10 @@ def histogram():
 # ---- speed
 
 SPEED_TITLE = "Unions of 100,000 sketches of 4,096 registers: images a second, one process"
-SPEED_NOTE = "26 November 2026; virtual processors (Xeon, 2.5 GHz): docs/NUMBERS.md"
+SPEED_NOTE = "30 November 2026; virtual processors (Xeon, 2.5 GHz); PostgreSQL without the scan: docs/NUMBERS.md"
 SHOWN = ("8 bits", "6 bits", "4 bits", "postgresql-hll, 5 bits")
 COLORS = {"C": "#4a7db5", "Python": "#8fb56a", "PostgreSQL": "#c08a4a"}
-AXIS, SCALE = 190, 560 / 1_600_000
+AXIS, SCALE = 190, 500 / 3_200_000
 
 
 def speeds():

@@ -51,6 +51,7 @@ def given_and_canonical(plan, is_path):
 def calls_of_c(image, canonical):
     from hll_sketches import _library as library
     yield "C, hll_image_check", lambda: library.check(image), library.OK
+    yield "C, hll_image_convert of the image as it is written", lambda: library.convert(canonical, 0), library.convert(image, 0)
     yield "C, hll_image_fold to lg_k 4", lambda: library.fold(image, 4), library.fold(canonical, 4)
 
 

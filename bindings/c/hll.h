@@ -269,13 +269,16 @@ hll_status hll_image_new(unsigned lg_k, unsigned width, uint8_t *out, size_t roo
  * The bytes are hashed as they are, as in Python, SQL, Java and C++. The Rust crate datasketches, and update of the crates for
  * Rust and Rattle here, hash a str with a byte ff after it: "ann" from there and "ann" from here are two values.
  * Returns HLL_OK, 1 to 11, HLL_ARGUMENT, HLL_MEMORY or HLL_BUFFER. Allocates the memory of reading, and the image; nothing if
- * registers of 6 or 8 bits get one value, or have all of at most 16 values already. */
+ * registers of 6 or 8 bits get one value, or have all of at most 16 values already. Registers of 4 bits, as this library writes
+ * them, then need at most a map for their exceptions, if there are at most 128, unless the value becomes an exception or
+ * raises the last register at the minimum. */
 hll_status hll_image_add(const uint8_t *image, size_t len, const uint8_t *values, size_t values_len,
                          const size_t *ends, size_t n, uint8_t *out, size_t room, size_t *size);
 
 /* Writes the image with one more coupon: a slot below 2^26, and a value from 1 to 63.
  * Returns HLL_OK, 1 to 11, HLL_ARGUMENT, HLL_MEMORY or HLL_BUFFER. Allocates the memory of reading, and the image; nothing for
- * registers of 6 or 8 bits. */
+ * registers of 6 or 8 bits. Registers of 4 bits, as this library writes them, need at most a map for their exceptions, if
+ * there are at most 128, unless the coupon becomes an exception or raises the last register at the minimum. */
 hll_status hll_image_add_coupon(const uint8_t *image, size_t len, uint32_t slot, unsigned value, uint8_t *out,
                                 size_t room, size_t *size);
 
@@ -317,7 +320,9 @@ hll_status hll_image_fold(const uint8_t *image, size_t len, unsigned lg_k, uint8
 /* Writes the image at another width. A width of 0 stands for the image's own width: then the image is written as this
  * library writes it, compact and with ascending coupons.
  * Returns HLL_OK, 1 to 11, HLL_ARGUMENT, HLL_MEMORY or HLL_BUFFER. Allocates the memory of reading, 2^lg_k bytes, and the
- * image; nothing for registers of 6 or 8 bits at their own width. */
+ * image; nothing for registers of 6 or 8 bits at their own width, and at most a map for exceptions for registers of 4 bits at
+ * theirs, if they are as this library writes them (the minimum is the least register, and the exceptions ascend) and there
+ * are at most 128 exceptions. */
 hll_status hll_image_convert(const uint8_t *image, size_t len, unsigned width, uint8_t *out, size_t room, size_t *size);
 
 /* Writes the image with the estimator fields that follow from its registers, and the out-of-order flag, whatever they were

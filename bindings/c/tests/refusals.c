@@ -1,6 +1,7 @@
 /* SPDX-License-Identifier: Apache-2.0 */
 /* Each request for memory of each call is refused in turn: the call answers HLL_MEMORY, leaves its output as it was and
- * gives back what it has. Link with --wrap of malloc, calloc, realloc, aligned_alloc, posix_memalign and free. */
+ * gives back what it has; or it makes the same image in another way. Link with --wrap of malloc, calloc, realloc,
+ * aligned_alloc, posix_memalign and free. */
 #include "test.h"
 
 void *__real_malloc(size_t size);
@@ -162,6 +163,13 @@ static hll_status call_grow(const uint8_t *image, size_t len, uint8_t *out, size
 static uint8_t out[HLL_IMAGE_MAX(12)], unchanged[sizeof out];
 static long refused;
 
+/* Whether a call can do without this request: its first two are for a map of the exceptions of 4-bit registers, and without that
+ * map it makes their sketch. */
+static int has_another_way(writes *call, bytes image, long first)
+{
+    return first < 2 && (image.at[7] & 15) == 2 && (call == call_add || call == call_add_coupon || call == call_convert_4);
+}
+
 /* A call with its first requests granted and the next refused; whether there was one to refuse. */
 static int refuse_writer(const char *name, writes *call, bytes image, long first)
 {
@@ -180,6 +188,14 @@ static int refuse_writer(const char *name, writes *call, bytes image, long first
         return 0;
     }
     refused++;
+    if (status == HLL_OK && has_another_way(call, image, first)) {
+        static uint8_t wanted[sizeof out];
+        size_t wanted_size;
+        status = call(image.at, image.len, wanted, sizeof wanted, &wanted_size);
+        CHECK(status == HLL_OK && size == wanted_size && memcmp(out, wanted, size) == 0, "%s, without a map: another image",
+              name);
+        return 1;
+    }
     CHECK(status == HLL_MEMORY, "%s, request %ld: %s", name, first, hll_reason(status));
     CHECK(size == 4711 && memcmp(out, unchanged, sizeof out) == 0, "%s, request %ld: output changed", name, first);
     return 1;
@@ -208,11 +224,17 @@ static int refuse_teller(const struct teller *teller, bytes image, long first)
     return 1;
 }
 
-/* Whether a call makes its image of one of registers of 8 or 6 bits without memory: with one more coupon, or at its own width. */
+/* Whether a call makes its image of one of registers without memory: at its own width, if it has no exceptions, or, with 8 or 6
+ * bits, with one more coupon. */
 static int makes_without_memory(writes *call, bytes image)
 {
+    static const uint8_t none[4];
     unsigned stage = image.at[7] & 3, width = image.at[7] >> 2 & 3;
-    return stage == 2 && width != 0 && (call == call_add_coupon || (call == call_convert && width == 1));
+    if (stage != 2)
+        return 0;
+    if (width == 0)
+        return call == call_convert_4 && memcmp(image.at + 36, none, sizeof none) == 0;
+    return call == call_add_coupon || (call == call_convert && width == 1);
 }
 
 static void refuse_each(const char *name, writes *call, bytes image)
@@ -222,6 +244,8 @@ static void refuse_each(const char *name, writes *call, bytes image)
         first++;
     if (makes_without_memory(call, image))
         CHECK(first == 0, "%s takes memory", name);
+    else if (call == call_convert_4 && (image.at[7] & 15) == 2)
+        CHECK(first == 2, "%s takes %ld requests, and not two for a map", name, first);
     else
         CHECK(first > 0 || call == call_new, "%s takes no memory, so nothing was tested", name);
 }

@@ -1,5 +1,4 @@
 -- SPDX-License-Identifier: Apache-2.0
-pub mod Elements
 pub mod Entries
 pub mod EntryReading
 pub mod FewExceptions

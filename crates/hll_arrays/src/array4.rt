@@ -20,10 +20,10 @@ use hll_kernels::kernels::WeightSums;
 use hll_registers::aux_format::AuxFormat;
 use hll_registers::estimate_state::EstimateState;
 use hll_registers::nibble_registers::NibbleRegisters;
-use hll_registers::nibble_slice::{NibbleSlice, Use};
+use hll_registers::nibble_slice::NibbleSlice;
 use hll_registers::preamble::{HllHeader, Preamble};
 use hll_registers::register_store::RegisterStore;
-use hll_registers::registers::{Registers, two_to, units_of};
+use hll_registers::registers::{Registers, Use, two_to, units_of};
 use std::alloc::{Allocator, Global};
 use std::marker::Model;
 
@@ -389,6 +389,7 @@ pub fn read_nibbles<'a, A: Allocator + Clone>(
     lg_config_k: u8,
     aux_format: AuxFormat,
     ooo: bool,
+    later: Use,
 ) -> Result<NibbleSlice<'a, A>, Error>
     requires least { 4 ≤ lg_config_k }
     requires most { lg_config_k ≤ 21 }
@@ -409,5 +410,5 @@ pub fn read_nibbles<'a, A: Allocator + Clone>(
         aux_format,
         ooo,
     };
-    read_slice(alloc, cursor, header, Use::Join)
+    read_slice(alloc, cursor, header, later)
 }

@@ -1,8 +1,8 @@
 // SPDX-License-Identifier: Apache-2.0
 //! 8-bit registers: one byte each.
-ghost use Rattle.std.specs.Prelude.{◌≡◌, ◌+◌, ◌^◌, ◌<◌, ◌≤◌, ◌==◌, ◌⊎◌, nat_le, length, take, drop, slice_index, slice_set, IfOk, IfErr};
+ghost use Rattle.std.specs.Prelude.{◌≡◌, ◌+◌, ◌^◌, ◌<◌, ◌≤◌, ◌==◌, ◌⊎◌, nat_le, true, false, length, take, drop, slice_index, slice_set, IfSome, IfOk, IfErr, OnOk};
 ghost use Rattle.std.specs.List.{list_all};
-ghost use Rattle.hll_base.specs.declared.error.Reason.TheVariants.{Memory};
+ghost use Rattle.hll_base.specs.declared.error.Reason.TheVariants.{Memory, Register};
 ghost use Rattle.hll_base.specs.Join.{join};
 ghost use Rattle.hll_kernels.specs.Packed as packed;
 ghost use Rattle.hll_kernels.specs.Packed.{zeros};
@@ -20,6 +20,7 @@ use hll_base::hll_type::HllType;
 use hll_coupons::coupon::Coupon;
 use hll_kernels::kernels::{
     WeightSums, all_zero, count_zeros, greatest_of, max_into, units, weight_sums,
+    zeros_and_greatest,
 };
 use hll_registers::estimate_state::EstimateState;
 use hll_registers::folds::max_folds;
@@ -27,7 +28,7 @@ use hll_registers::plain_images::eight_bit_image;
 use hll_registers::preamble::Preamble;
 use hll_registers::register_slice::RegisterSlice;
 use hll_registers::register_store::RegisterStore;
-use hll_registers::registers::{Registers, two_to, zeros_left};
+use hll_registers::registers::{Registers, Use, two_to, zeros_left};
 use std::alloc::{Allocator, Global};
 use std::marker::Model;
 
@@ -94,14 +95,14 @@ impl<A: Allocator> Array8<A> {
         ensures order { IfErr result (λ e. (e ≡ Memory) ⊎ FirstHll8Fault lg_config_k cursor.entry e) }
         ensures asked { IfErr result (λ e. e ≡ Memory → IsHll8Payload lg_config_k (take (32 + 2 ^ lg_config_k) cursor.entry)) }
     {
-        let (registers, state) = read_registers(cursor, lg_config_k, ooo)?;
+        let source = read_registers(cursor, lg_config_k, ooo, Use::Join)?;
         // (not the header's count: zeros are counted when a caller asks for them)
         let zero_count = None;
         Ok(Array8 {
             lg_config_k,
-            registers: Vec::from_slice(alloc, registers)?,
+            registers: Vec::from_slice(alloc, source.values())?,
             zero_count,
-            state,
+            state: source.estimate_state(),
         })
     }
 
@@ -416,27 +417,56 @@ impl<A: Allocator> Eq for Array8<A> {
     ghost laws = { same_stored-equivalence };
 }
 
-/// Returns the registers in the part of an image of 8-bit registers after the header, borrowed, and their state
+/// Returns the registers in the part of an image of 8-bit registers after the header, borrowed, with their state
 /// (docs/FORMAT.md, "HLL"). The zero count is checked against its bound, but not used.
 ///
-/// `lg_config_k` is 4 to 21. Fails with `Truncated`, `Count` or `Register`. One pass; allocates nothing.
+/// `lg_config_k` is 4 to 21. Fails with `Truncated`, `Count` or `Register`. One pass, which also counts what a later `Use` needs;
+/// allocates nothing.
 pub fn read_registers(
     cursor: SketchSlice<'_>,
     lg_config_k: u8,
     ooo: bool,
-) -> Result<(&[u8], EstimateState), Error>
-    requires { lg_config_k ≤ 21 }
+    later: Use,
+) -> Result<RegisterSlice<'_>, Error>
+    requires least { 4 ≤ lg_config_k }
+    requires most { lg_config_k ≤ 21 }
     ensures ok { IfOk result (λ r. IsHll8Payload lg_config_k (take (32 + 2 ^ lg_config_k) cursor.entry)
-        × (r.0.now ≡ take (2 ^ lg_config_k) (drop 32 cursor.entry)) × (r.1 ≡ state_at ooo cursor.entry)) }
-    ensures legal { IfOk result (λ r. AreRegisters lg_config_k r.0.now × IsState r.1) }
+        × (r ≡ record { lg_k = lg_config_k; registers = take (2 ^ lg_config_k) (drop 32 cursor.entry); state = state_at ooo cursor.entry })) }
     ensures err { IfErr result (λ e. Hll8Fault lg_config_k cursor.entry e) }
     ensures order { IfErr result (λ e. FirstHll8Fault lg_config_k cursor.entry e) }
 {
-    let (registers, state) = read_register_bytes(cursor, lg_config_k, ooo)?;
-    if !are_registers(registers) {
-        return Err(Error::new(Reason::Register));
+    let (bytes, state) = read_register_bytes(cursor, lg_config_k, ooo)?;
+    let zero_count = checked_zeros(bytes, later)?;
+    Ok(
+        RegisterSlice::new(lg_config_k, bytes)
+            .with_zero_count(zero_count)
+            .with_state(state),
+    )
+}
+
+/// Checks that each byte is at most 63, and returns the number of zeros if a later `Use` needs it. One pass.
+///
+/// Fails with `Register`.
+fn checked_zeros(bytes: &[u8], later: Use) -> Result<Option<u32>, Error>
+    requires few { length bytes.now ≤ 2 ^ 21 }
+    ensures small { OnOk result (list_all (λ v. nat_le v 63) bytes.now ≡ true) }
+    ensures zeros { IfOk result (λ found. IfSome found (λ n. n ≡ zeros bytes.now)) }
+    ensures err { IfErr result (λ e. (e ≡ Register) × (list_all (λ v. nat_le v 63) bytes.now ≡ false)) }
+{
+    match later {
+        Use::Join => {
+            if are_registers(bytes) {
+                return Ok(None);
+            }
+        }
+        Use::Count => {
+            let (zeros, greatest) = zeros_and_greatest(bytes);
+            if greatest <= MAX_VALUE {
+                return Ok(Some(zeros as u32));
+            }
+        }
     }
-    Ok((registers, state))
+    Err(Error::new(Reason::Register))
 }
 
 /// Returns the bytes of the registers in the part of an image of 8-bit registers after the header, and their state, as

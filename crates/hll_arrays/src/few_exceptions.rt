@@ -14,6 +14,7 @@ ghost use Rattle.hll_registers.specs.declared.aux_format.AuxFormat.TheVariants.{
 use crate::four_bit_payload::{Hll4Header, coupon_of, frame_of};
 use hll_base::cursor::SketchSlice;
 use hll_coupons::coupon::Coupon;
+use hll_coupons::raw_coupons::elements_of_raw_coupons;
 use hll_kernels::nibbles::{MARK, count_mark_nibbles, nibble_of};
 use hll_registers::agreement::are_plain;
 use hll_registers::aux_format::AuxFormat;
@@ -72,17 +73,8 @@ pub fn read_few_exceptions(
         lg_k: lg_config_k,
         minimum: cur_min,
         nibbles: frame.nibbles,
-        entries: elements_of(frame.entries, count),
+        entries: elements_of_raw_coupons(frame.entries, count),
     })
-}
-
-/// Returns the first elements of four bytes.
-fn elements_of(bytes: &[u8], count: usize) -> &[[u8; 4]]
-    requires { 4 * count ≤ length bytes.now }
-    ensures { map (from_le_bytes w32) result.now ≡ raw_coupons count bytes.now }
-{
-    let (elements, _) = bytes.as_chunks::<4>();
-    &elements[..count]
 }
 
 /// Returns whether the first raw coupons of some bytes, at least one, are exceptions that agree with the nibbles: their slots

@@ -22,9 +22,9 @@ use hll_registers::exception_map::{
     Exceptions, ExceptionsBuilder, add_exception, built, has_exception,
 };
 use hll_registers::nibble_registers::NibbleRegisters;
-use hll_registers::nibble_slice::{NibbleSlice, Use};
+use hll_registers::nibble_slice::NibbleSlice;
 use hll_registers::preamble::Preamble;
-use hll_registers::registers::{Registers, two_to};
+use hll_registers::registers::{Registers, Use, two_to};
 use std::alloc::Allocator;
 
 /// The fields of an image's header for 4-bit registers. The minimum may be below the least register.
@@ -58,7 +58,7 @@ pub(crate) fn read_payload<A: Allocator + Clone>(
     ensures asked { let h = shape_of_hll4 header.lg_config_k header.cur_min header.aux_format in
         IfErr result (λ e. e ≡ Memory → IsWhole h cursor.entry) }
 {
-    let registers = read_slice(&alloc, cursor, header, Use::Copy)?;
+    let registers = read_slice(&alloc, cursor, header, Use::Count)?;
     let state = registers.estimate_state();
     Ok((registers.into_registers(alloc)?, state))
 }

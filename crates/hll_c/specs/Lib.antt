@@ -1,6 +1,7 @@
 -- SPDX-License-Identifier: Apache-2.0
 pub mod Answers
 pub mod Batches
+pub mod BytesOrParts
 pub mod ByteRegisters
 pub mod Calls
 pub mod Estimates
@@ -9,4 +10,3 @@ pub mod StateInfo
 pub mod States
 pub mod Steps
 pub mod Unions
-pub mod Written

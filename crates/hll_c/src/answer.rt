@@ -5,7 +5,7 @@ ghost use Rattle.hll_base.specs.declared.error.Reason.TheVariants.{Memory};
 ghost use Rattle.hll_sketch.specs.Layout.{sketch_of};
 ghost use Rattle.hll_sketch.specs.EstimatorFields.{FillsFields};
 ghost use Rattle.hll_c.specs.Answers.{Answers, IsImageOf, PutsBytes, Reports, Tests};
-ghost use Rattle.hll_c.specs.Written.{bytes_of};
+ghost use Rattle.hll_c.specs.BytesOrParts.{bytes_of};
 
 use hll_base::error::Error;
 use hll_registers::image_parts::ImageParts;
@@ -49,7 +49,7 @@ pub(crate) fn put_image(made: Result<HllSketch, Error>, out: &mut [u8], size: &m
 }
 
 /// What a call writes: the bytes of an image, or its parts.
-pub(crate) enum Written<'a> {
+pub(crate) enum BytesOrParts<'a> {
     /// All its bytes.
     Bytes(Vec<u8>),
     /// Its parts, borrowed from another image.
@@ -57,12 +57,16 @@ pub(crate) enum Written<'a> {
 }
 
 /// Writes an image into the first bytes of `out`, if there is room for it. Sets `size` to the size of the image.
-pub(crate) fn put_written(image: Result<Written<'_>, Error>, out: &mut [u8], size: &mut usize) -> u8
+pub(crate) fn put_bytes_or_parts(
+    image: Result<BytesOrParts<'_>, Error>,
+    out: &mut [u8],
+    size: &mut usize,
+) -> u8
     ensures { PutsBytes (λ b. MatchResult image.entry (λ w. b ≡ bytes_of w) (λ _. ⊥)) (λ r. MatchResult image.entry (λ _. ⊥) (λ e. r ≡ e)) out.old out.new size.old size.new result }
 {
     match image {
-        Ok(Written::Bytes(bytes)) => put_slice(&bytes, out, size),
-        Ok(Written::Parts(parts)) => put_parts(&parts, out, size),
+        Ok(BytesOrParts::Bytes(bytes)) => put_slice(&bytes, out, size),
+        Ok(BytesOrParts::Parts(parts)) => put_parts(&parts, out, size),
         Err(e) => e.reason().number(),
     }
 }

@@ -15,6 +15,7 @@ use hll_arrays::kernels::{count_zeros, units};
 use hll_base::error::{Error, Reason};
 use hll_estimate::double::nearest_double;
 use hll_estimate::estimate::estimate_of;
+use hll_registers::registers::Use;
 use hll_sketch::Totals;
 use hll_sketch::borrowed_image::BorrowedImage;
 use hll_sketch::coupon_room::CouponRoom;
@@ -66,7 +67,7 @@ pub(crate) fn estimate_of_image(alloc: Global, image: &[u8]) -> Result<HllEstima
     ensures err { IfErr result (RefusesInfo (Unit {0}) image.now) }
 {
     let mut room = CouponRoom::new();
-    let image = BorrowedImage::read(alloc, image, &mut room)?;
+    let image = BorrowedImage::read(alloc, image, &mut room, Use::Count)?;
     match image.totals() {
         Totals::Coupons { count, .. } => Ok(estimate_of_coupons(count)),
         Totals::Registers(totals) => Ok(estimate_of_totals(

@@ -18,9 +18,9 @@ ghost use Rattle.hll_c.specs.Answers.{IsImageOf, WithFields, RefusesArguments, R
 ghost use Rattle.hll_c.specs.Batches.{AreEnds, strings};
 ghost use Rattle.hll_c.specs.Calls.{bit, AreNewArguments, IsEmptyAt, IsMadeOf, IsFoldOf, RefusesFold, HasWidth, IsAtWidth, AsksWidth, IsCleared, AreOfCoupon, HasCoupon, HasValues, SaysAgreement};
 ghost use Rattle.hll_c.specs.Steps.{IsRefusedAt};
-ghost use Rattle.hll_c.specs.Written.{bytes_of};
+ghost use Rattle.hll_c.specs.BytesOrParts.{bytes_of};
 
-use crate::answer::{Written, image_with_fields};
+use crate::answer::{BytesOrParts, image_with_fields};
 use crate::arguments::{asked_width, lg_k_of_number, width_of};
 use crate::batch::{are_ends, put_each};
 use hll_base::bounds::{MAX_VALUE, SLOT_BITS};
@@ -107,7 +107,7 @@ pub(crate) fn with_coupon(
     image: &[u8],
     slot: u32,
     value: u32,
-) -> Result<Written<'_>, Error>
+) -> Result<BytesOrParts<'_>, Error>
     ensures ok { IfOk result (λ written. IsImageOf (WithFields (IsMadeOf image.now (HasCoupon slot value))) (bytes_of written)) }
     ensures err { IfErr result (λ e. RefusesWith (AreOfCoupon slot value) image.now e) }
 {
@@ -116,13 +116,13 @@ pub(crate) fn with_coupon(
     }
     let coupon = Coupon::pack(slot, value as u8);
     if let Some(written) = coupon_image_with(alloc, image, &mut [coupon.raw()])? {
-        return Ok(Written::Bytes(written));
+        return Ok(BytesOrParts::Bytes(written));
     }
-    if let Some(parts) = register_image_with(image, &[coupon.raw()]) {
-        return Ok(Written::Parts(parts));
+    if let Some(parts) = register_image_with(&alloc, image, &[coupon.raw()]) {
+        return Ok(BytesOrParts::Parts(parts));
     }
     let sketch = sketch_with_coupon(alloc, image, coupon)?;
-    Ok(Written::Bytes(image_with_fields(sketch)?))
+    Ok(BytesOrParts::Bytes(image_with_fields(sketch)?))
 }
 
 /// Returns the sketch of the image with one more coupon.
@@ -150,7 +150,7 @@ pub(crate) fn with_values<'a>(
     image: &'a [u8],
     values: &[u8],
     ends: &[usize],
-) -> Result<Written<'a>, Error>
+) -> Result<BytesOrParts<'a>, Error>
     ensures ok { IfOk result (λ written. IsImageOf (WithFields (IsMadeOf image.now (HasValues values.now ends.now))) (bytes_of written)) }
     ensures err { IfErr result (λ e. RefusesWith (AreEnds (length values.now) ends.now) image.now e) }
 {
@@ -158,18 +158,19 @@ pub(crate) fn with_values<'a>(
         return Err(Error::new(Reason::Argument));
     }
     if let Some(written) = coupon_image_with_values(alloc, image, values, ends)? {
-        return Ok(Written::Bytes(written));
+        return Ok(BytesOrParts::Bytes(written));
     }
-    if let Some(parts) = register_image_with_values(image, values, ends) {
-        return Ok(Written::Parts(parts));
+    if let Some(parts) = register_image_with_values(alloc, image, values, ends) {
+        return Ok(BytesOrParts::Parts(parts));
     }
     let sketch = sketch_with_values(alloc, image, values, ends)?;
-    Ok(Written::Bytes(image_with_fields(sketch)?))
+    Ok(BytesOrParts::Bytes(image_with_fields(sketch)?))
 }
 
-/// Returns an image of 8-bit or 6-bit registers with the coupons of at most `FEW` byte strings, if its registers hold them all or
-/// there is one. Returns `None` for more strings, or if `register_image_with` returns `None`.
+/// Returns an image of registers with the coupons of at most `FEW` byte strings, if its registers hold them all or there is one.
+/// Returns `None` for more strings, or if `register_image_with` returns `None`.
 fn register_image_with_values<'a>(
+    alloc: Global,
     image: &'a [u8],
     values: &[u8],
     ends: &[usize],
@@ -182,7 +183,7 @@ fn register_image_with_values<'a>(
     }
     let mut raw_coupons = [0; FEW];
     put_each(values, 0, ends, &mut raw_coupons);
-    register_image_with(image, &raw_coupons[..ends.len()])
+    register_image_with(&alloc, image, &raw_coupons[..ends.len()])
 }
 
 /// Returns an image of coupons with the coupons of 1 to `BLOCK` byte strings, without making a table. Returns `None` for
@@ -264,19 +265,19 @@ fn folded_sketch(alloc: Global, image: &[u8], lg_k: u8) -> Result<HllSketch, Err
 }
 
 /// Returns the image at the width that a number asks for. 0 asks for the image's own width.
-pub(crate) fn converted(alloc: Global, image: &[u8], width: u32) -> Result<Written<'_>, Error>
+pub(crate) fn converted(alloc: Global, image: &[u8], width: u32) -> Result<BytesOrParts<'_>, Error>
     ensures ok { IfOk result (λ written. IsImageOf (WithFields (IsMadeOf image.now (IsAtWidth width))) (bytes_of written)) }
     ensures err { IfErr result (λ e. RefusesWith (AsksWidth width) image.now e) }
 {
     let hll_type = asked_width(width, width_in_header(image))?;
     if let Some(written) = coupon_image_at(alloc, hll_type, image)? {
-        return Ok(Written::Bytes(written));
+        return Ok(BytesOrParts::Bytes(written));
     }
-    if let Some(parts) = register_image_at(hll_type, image)? {
-        return Ok(Written::Parts(parts));
+    if let Some(parts) = register_image_at(&alloc, hll_type, image)? {
+        return Ok(BytesOrParts::Parts(parts));
     }
     let sketch = sketch_at(alloc, image, hll_type)?;
-    Ok(Written::Bytes(image_with_fields(sketch)?))
+    Ok(BytesOrParts::Bytes(image_with_fields(sketch)?))
 }
 
 /// Returns the sketch of the image at a width.

@@ -9,6 +9,7 @@ ghost use Rattle.hll_c.specs.Info.{IsInfoOf, SaysInfo, AreCountsOf, SaysHistogra
 use hll_base::error::{Error, Reason};
 use hll_base::hll_type::HllType;
 use hll_coupons::serialization::LG_LIST_BUCKETS;
+use hll_registers::registers::Use;
 use hll_sketch::Totals;
 use hll_sketch::borrowed_image::BorrowedImage;
 use hll_sketch::coupon_room::CouponRoom;
@@ -123,7 +124,7 @@ pub(crate) fn info_of(alloc: Global, image: &[u8], size: usize) -> Result<HllInf
         return Err(Error::new(Reason::Argument));
     }
     let mut room = CouponRoom::new();
-    let image = BorrowedImage::read(alloc, image, &mut room)?;
+    let image = BorrowedImage::read(alloc, image, &mut room, Use::Count)?;
     Ok(info_of_read(&image))
 }
 

@@ -13,6 +13,7 @@ use crate::answer::{BUFFER, OK};
 use crate::state::{make, too_small};
 use hll_base::bounds::{MAX_LG_K, MIN_LG_K};
 use hll_base::error::Reason;
+use hll_registers::registers::Use;
 use hll_sketch::borrowed_image::{BorrowedImage, compact_image};
 use hll_sketch::coupon_room::CouponRoom;
 use hll_state::header::{HEADER_LEN, Header};
@@ -43,7 +44,7 @@ pub(crate) fn join_image(
     }
     // (after the return: room is cleared)
     let mut room = CouponRoom::new();
-    match BorrowedImage::read(alloc, image, &mut room) {
+    match BorrowedImage::read(alloc, image, &mut room, Use::Join) {
         Ok(image) => {
             let widths = bit_of(image.hll_type());
             join(header, lg_max_k, state, size, widths, &image)

@@ -50,7 +50,7 @@ mod state;
 mod state_info;
 mod union;
 
-use crate::answer::{code_of, put_bytes, put_image, put_written, report};
+use crate::answer::{code_of, put_bytes, put_bytes_or_parts, put_image, report};
 use crate::batch::put_coupons;
 use crate::estimate::HllEstimate;
 use crate::info::{HllHistogram, HllInfo};
@@ -141,7 +141,8 @@ pub extern "C" fn hll_image_new(
 ///
 /// Returns `Argument` if ends descend or an end is after the last byte of `values`, the reason of the first check that the
 /// image fails, or `Memory`. Allocates its sketch and the written image; nothing if an image of 8-bit or 6-bit registers gets
-/// one value, or up to 16 that change no register.
+/// one value, or up to 16 that change no register. An image of 4-bit registers that this library wrote then needs at most a map
+/// for its exceptions, if there are at most 128, unless the value becomes an exception or raises the last register at the minimum.
 #[unsafe(no_mangle)]
 pub extern "C" fn hll_image_add(
     alloc: Global,
@@ -153,13 +154,15 @@ pub extern "C" fn hll_image_add(
 ) -> u8
     ensures { Answers (IsMadeOf image.now (HasValues values.now ends.now)) (RefusesWith (AreEnds (length values.now) ends.now) image.now) out.old out.new size.old size.new result }
 {
-    put_written(image::with_values(alloc, image, values, ends), out, size)
+    put_bytes_or_parts(image::with_values(alloc, image, values, ends), out, size)
 }
 
 /// Writes the image with one more coupon into `out`: a slot below 2^26, and a value from 1 to 63.
 ///
 /// Returns `Argument` if the slot or the value is out of range, the reason of the first check that the image fails, or
-/// `Memory`. Allocates its sketch and the written image; nothing for an image of 8-bit or 6-bit registers.
+/// `Memory`. Allocates its sketch and the written image; nothing for an image of 8-bit or 6-bit registers. An image of 4-bit
+/// registers that this library wrote needs at most a map for its exceptions, if there are at most 128, unless the coupon becomes
+/// an exception or raises the last register at the minimum.
 #[unsafe(no_mangle)]
 pub extern "C" fn hll_image_add_coupon(
     alloc: Global,
@@ -171,7 +174,7 @@ pub extern "C" fn hll_image_add_coupon(
 ) -> u8
     ensures { Answers (IsMadeOf image.now (HasCoupon slot value)) (RefusesWith (AreOfCoupon slot value) image.now) out.old out.new size.old size.new result }
 {
-    put_written(image::with_coupon(alloc, image, slot, value), out, size)
+    put_bytes_or_parts(image::with_coupon(alloc, image, slot, value), out, size)
 }
 
 /// Writes the image of the union of two images into `out`, at a width. `lg_max_k` is the bound of its `lg_k`.
@@ -269,7 +272,8 @@ pub extern "C" fn hll_image_fold(
 ///
 /// Returns `Argument` if `width` is not 0, 4, 6 or 8, the reason of the first check that the image fails, or `Memory`.
 /// Allocates its sketch, for another width also a sketch of that width, and the written image; nothing for an image of 8-bit or
-/// 6-bit registers at its own width.
+/// 6-bit registers at its own width, and at most a map of exceptions for one of 4-bit registers that this library wrote, if there
+/// are at most 128.
 #[unsafe(no_mangle)]
 pub extern "C" fn hll_image_convert(
     alloc: Global,
@@ -280,7 +284,7 @@ pub extern "C" fn hll_image_convert(
 ) -> u8
     ensures { Answers (IsMadeOf image.now (IsAtWidth width)) (RefusesWith (AsksWidth width) image.now) out.old out.new size.old size.new result }
 {
-    put_written(image::converted(alloc, image, width), out, size)
+    put_bytes_or_parts(image::converted(alloc, image, width), out, size)
 }
 
 /// Writes the image with its estimator fields set into `out` (docs/FORMAT.md, "Estimator fields"). The sketch of a list or a

@@ -25,6 +25,7 @@ use crate::state::image_of_held;
 use hll_base::bounds::MAX_VALUE;
 use hll_base::error::{Error, Reason};
 use hll_base::hll_type::HllType;
+use hll_registers::registers::Use;
 use hll_sketch::borrowed_image::{BorrowedImage, compact_image};
 use hll_sketch::coupon_room::CouponRoom;
 use hll_sketch::few_exceptions::few_exceptions;
@@ -122,7 +123,7 @@ impl GrowingUnion {
         }
         // (after the return: room is cleared)
         let mut room = CouponRoom::new();
-        let image = BorrowedImage::read(alloc, image, &mut room)?;
+        let image = BorrowedImage::read(alloc, image, &mut room, Use::Join)?;
         self.update(&image)
     }
 

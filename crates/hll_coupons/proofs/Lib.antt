@@ -8,6 +8,7 @@ pub mod Bits
 pub mod Collecting
 pub mod CouponRows
 pub mod Cycles
+pub mod Elements
 pub mod Fillings
 pub mod Folds
 pub mod Greatest
@@ -15,6 +16,7 @@ pub mod ImageRows
 pub mod Insertions
 pub mod Inverses
 pub mod Listed
+pub mod ListedEntries
 pub mod MapChanges
 pub mod Maps
 pub mod Marks

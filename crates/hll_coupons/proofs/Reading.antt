@@ -1,11 +1,11 @@
 -- SPDX-License-Identifier: Apache-2.0
 -- Lemmas on reading the buckets of a list.
-use Rattle.std.proofs.Common.{◌≡◌, ◌≢◌, ℕ, zero, suc, ◌+◌, ◌-◌, ◌*◌, ◌^◌, ◌<◌, ◌≤◌, Bool, true, false, ◌||◌, cond, nat_eq, List, [], ◌∷◌, ◌++◌, length, drop, take, get_or, All, refl, sym, ◌∙◌, ap, subst, arith}
+use Rattle.std.proofs.Common.{◌≡◌, ◌≢◌, ℕ, zero, suc, ◌+◌, ◌-◌, ◌*◌, ◌^◌, ◌<◌, ◌≤◌, Bool, true, false, ◌||◌, cond, nat_eq, List, [], ◌∷◌, ◌++◌, length, drop, take, get_or, map, All, refl, sym, ◌∙◌, ap, subst, arith}
 use Rattle.std.specs.Int.{w32, from_le_bytes}
 use Rattle.std.specs.Cmp.{nat_cmp_total}
 use Rattle.std.specs.FinSet.{len, contains, len-empty, len-insert, contains-from_list_nat}
 use Rattle.std.proofs.lemmas.Bool.{true≢false}
-use Rattle.std.proofs.lemmas.List.{length-append, length-take, append-nil, take-append-drop}
+use Rattle.std.proofs.lemmas.List.{length-append, length-take, append-nil, drop_more, take-append-drop}
 use Rattle.std.proofs.lemmas.List.Folds.{list_any-append}
 use Rattle.std.specs.List.{list_any}
 use Rattle.std.specs.Ordering.{nat_cmp}
@@ -21,19 +21,27 @@ use Rattle.hll_coupons.proofs.Members.{set_of-between, insert-member, len-betwee
 
 -- ---- one bucket more
 
-pub next-full : (m : ℕ) (b : List ℕ) → from_le_bytes w32 b ≢ 0 → coupons_at false (suc m) b ≡ from_le_bytes w32 b ∷ coupons_at false m (drop 4 b)
-next-full m b h = coupons_in-full (from_le_bytes w32 b) (raw_coupons m (drop 4 b)) (positive (from_le_bytes w32 b) h)
+-- the coupons among buckets: all buckets if the image is compact, else those that are not empty
+abbrev pub among : Bool → List ℕ → List ℕ
+among compact buckets = cond compact buckets (coupons_in buckets)
+
+pub among-cons : (compact : Bool) (w : ℕ) (buckets : List ℕ) → (w ≡ 0 → compact ≡ true) → among compact (w ∷ buckets) ≡ w ∷ among compact buckets
+among-cons true w buckets filled = refl
+among-cons false w buckets filled = coupons_in-full w buckets (positive w (λ z. true≢false (sym (filled z))))
   where
     positive : (w : ℕ) → w ≢ 0 → 0 < w
     positive zero h = absurd (h refl)
     positive (suc n) h = omega arith
 
+pub among-nil : (compact : Bool) → among compact [] ≡ []
+among-nil true = refl
+among-nil false = refl
+
 pub next-empty : (m : ℕ) (b : List ℕ) → from_le_bytes w32 b ≡ 0 → coupons_at false (suc m) b ≡ coupons_at false m (drop 4 b)
 next-empty m b h = coupons_in-empty (from_le_bytes w32 b) (raw_coupons m (drop 4 b)) h
 
 pub next : (compact : Bool) (m : ℕ) (b : List ℕ) → (from_le_bytes w32 b ≡ 0 → compact ≡ true) → coupons_at compact (suc m) b ≡ from_le_bytes w32 b ∷ coupons_at compact m (drop 4 b)
-next true m b h = refl
-next false m b h = next-full m b (λ z. true≢false (sym (h z)))
+next compact m b filled = among-cons compact (from_le_bytes w32 b) (raw_coupons m (drop 4 b)) filled
 
 -- ---- coupons
 
@@ -106,6 +114,22 @@ passed_over n i w b drop4 all order lt is raw_coupon rest zero' =
     let count : n - i ≡ suc m = omega arith in
     is ∙ ap (λ k. order ++ coupons_at false k b) count ∙ ap (λ xs. order ++ xs) (next-empty m b (sym raw_coupon ∙ zero'))
     ∙ ap (λ d. order ++ coupons_at false m d) (sym rest)
+
+-- an element of four bytes is read
+pub element_read : (compact : Bool) (elements : List (List ℕ)) (i w : ℕ) (e all order : List ℕ) → i < length elements → all ≡ order ++ among compact (map (from_le_bytes w32) (drop i elements))
+    → w ≡ from_le_bytes w32 (get_or elements i e) → (w ≡ 0 → compact ≡ true) → all ≡ order ++ w ∷ among compact (map (from_le_bytes w32) (drop (i + 1) elements))
+element_read compact elements i w e all order lt is raw_coupon filled =
+    let rest : List ℕ = map (from_le_bytes w32) (drop (i + 1) elements) in
+    is ∙ ap (λ xs. order ++ among compact (map (from_le_bytes w32) xs)) (drop_more elements i e lt)
+    ∙ ap (λ xs. order ++ xs) (among-cons compact (from_le_bytes w32 (get_or elements i e)) rest (λ z. filled (raw_coupon ∙ z)))
+    ∙ (λ j. order ++ sym raw_coupon j ∷ among compact rest)
+
+-- an element of an empty bucket is skipped
+pub element_passed : (elements : List (List ℕ)) (i w : ℕ) (e all order : List ℕ) → i < length elements → all ≡ order ++ coupons_in (map (from_le_bytes w32) (drop i elements))
+    → w ≡ from_le_bytes w32 (get_or elements i e) → w ≡ 0 → all ≡ order ++ coupons_in (map (from_le_bytes w32) (drop (i + 1) elements))
+element_passed elements i w e all order lt is raw_coupon zero' =
+    is ∙ ap (λ xs. order ++ coupons_in (map (from_le_bytes w32) xs)) (drop_more elements i e lt)
+    ∙ ap (λ xs. order ++ xs) (coupons_in-empty (from_le_bytes w32 (get_or elements i e)) (map (from_le_bytes w32) (drop (i + 1) elements)) (sym raw_coupon ∙ zero'))
 
 -- ---- a list
 

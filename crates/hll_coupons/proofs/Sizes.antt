@@ -43,7 +43,7 @@ len-part (x ∷ xs) S h = elim (cases_Bool (contains (set_of xs) x)) [
 ]
 
 -- a subset with the same number of members is the whole set
-part_of_same : (xs : List ℕ) (S : Pairs) → len (set_of xs) ≡ len S → is_subset (set_of xs) S ≡ true → is_subset S (set_of xs) ≡ true
+pub part_of_same : (xs : List ℕ) (S : Pairs) → len (set_of xs) ≡ len S → is_subset (set_of xs) S ≡ true → is_subset S (set_of xs) ≡ true
 part_of_same xs S same part = contains-is_subset nat_cmp_total S (set_of xs) (λ q h. elim (cases_Bool (contains (set_of xs) q)) [
   | inl found ↦ found
   | inr missing ↦

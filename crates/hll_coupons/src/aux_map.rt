@@ -1,8 +1,10 @@
 // SPDX-License-Identifier: Apache-2.0
 //! The exceptions of 4-bit registers: a map from slots to values (docs/MODEL.md, "Maps of exceptions").
-ghost use Rattle.std.specs.Prelude.{◌≡◌, ◌≢◌, ◌+◌, ◌*◌, ◌^◌, ◌<◌, ◌≤◌, ◌==◌, ℕ, if◌then◌else◌, length, map, None, Some, IsOk, IfOk, IfErr, OnOk, OnErr, IfSome};
+ghost use Rattle.std.specs.Prelude.{◌≡◌, ◌≢◌, ◌+◌, ◌*◌, ◌^◌, ◌<◌, ◌≤◌, ◌==◌, ℕ, if◌then◌else◌, true, length, map, None, Some, IsOk, IfOk, IfErr, OnOk, OnErr, IfSome};
 ghost use Rattle.std.specs.FinSet as set;
+ghost use Rattle.std.specs.Int.{w32, from_le_bytes};
 ghost use Rattle.std.specs.Iterator.{YieldsFirst, item_count};
+ghost use Rattle.std.specs.List.{list_all};
 ghost use Rattle.hll_base.specs.declared.error.Reason.TheVariants.{Memory};
 ghost use Rattle.hll_coupons.specs.AuxMap as sizes;
 ghost use Rattle.hll_coupons.specs.AuxMap.{table_size, empty_map, entries_in, entry_of, value_in, with_value, Inserts, IsGrownFrom, IsMap};
@@ -17,6 +19,7 @@ use crate::container::{Container, ContainerIter};
 use crate::coupon::Coupon;
 use crate::filling::{put_all, put_one};
 use crate::long_searches::LongSearches;
+use crate::raw_coupons::{ascends, raw_coupon_at};
 use crate::search::{Key, SHORT_BY_SLOT, put_entry, search, search_within};
 use hll_base::error::Error;
 use std::alloc::{Allocator, Global};
@@ -148,6 +151,30 @@ impl<A: Allocator> AuxMap<A> {
         ensures { result ≡ have_same_coupons self.now.table other.now.table }
     {
         self.table.len() == other.table.len() && other.has_all(self)
+    }
+
+    /// Returns whether raw coupons, each of four bytes, are the entries in ascending order. Searches for one after the other,
+    /// which takes quadratic time if all entries are on one path. Allocates nothing.
+    pub fn equals_ascending(&self, coupons: &[[u8; 4]]) -> bool
+        ensures { result ≡ true → IsAscending (map (from_le_bytes w32) coupons.now) (coupons_of self.now.table) }
+    {
+        if coupons.len() != self.table.len() || !ascends(coupons) {
+            return false;
+        }
+        self.has_each(coupons)
+    }
+
+    /// Returns whether each of some raw coupons, of four bytes, is an entry. Searches for one after the other.
+    fn has_each(&self, coupons: &[[u8; 4]]) -> bool
+        ensures { result ≡ true → list_all (set.contains (coupons_of self.now.table)) (map (from_le_bytes w32) coupons.now) ≡ true }
+    {
+        for index in 0..coupons.len() {
+            let coupon = Coupon::from_raw(raw_coupon_at(coupons, index));
+            if coupon.value() == 0 || !self.has(coupon) {
+                return false;
+            }
+        }
+        true
     }
 
     /// Returns a copy of the entries as coupons, in ascending order.

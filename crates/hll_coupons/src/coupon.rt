@@ -12,7 +12,7 @@ use std::hash::Hash;
 use std::marker::Model;
 
 /// The slot in a raw coupon.
-const SLOT_MASK: u32 = 0x03ff_ffff;
+pub(crate) const SLOT_MASK: u32 = 0x03ff_ffff;
 
 /// Further leading zeros in the second half of a hash don't make the value greater.
 const MOST_ZEROS: u32 = MAX_VALUE as u32 - 1;

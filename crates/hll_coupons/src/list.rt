@@ -12,7 +12,8 @@ ghost use Rattle.hll_coupons.specs.Payload.{shape_of_list, HasListCount, list_bu
 ghost use Rattle.hll_coupons.specs.Coupons as header;
 
 use crate::container::{Container, Insertion, buckets_of};
-use crate::coupon::Coupon;
+use crate::coupon::{Coupon, SLOT_MASK};
+use crate::raw_coupons::elements_of_raw_coupons;
 use crate::serialization::{
     COMPACT_FLAG_MASK, COUPON_SIZE_BYTES, CUR_MODE_LIST, EMPTY_FLAG_MASK, LG_LIST_BUCKETS,
     LIST_PREAMBLE_SIZE, LIST_PREINTS, SERIAL_VERSION, encode_mode_byte,
@@ -166,15 +167,6 @@ impl<A: Allocator> List<A> {
         self.container.buckets()[..self.container.len()].contains(&coupon)
     }
 
-    /// Returns whether the list has the coupon. No raw coupon of the list is above `greatest`, so a greater coupon
-    /// needs no search.
-    fn contains_up_to(&self, coupon: Coupon, greatest: u32) -> bool
-        requires { (c : ℕ) → set.contains (coupons_of self.now) c ≡ true → c ≤ greatest }
-        ensures { result ≡ set.contains (coupons_of self.now) coupon }
-    {
-        coupon.raw() <= greatest && self.contains(coupon)
-    }
-
     /// Returns the container with the buckets.
     pub fn container(&self) -> &Container<A>
         ensures same { result.now ≡ self.now }
@@ -270,11 +262,11 @@ fn buckets_to_read(lg_arr: usize, coupon_count: usize, empty: bool, compact: boo
 }
 
 /// Reads buckets into an empty list. Fails with `Coupon` if a coupon has no value or occurs twice, or if a bucket of a
-/// compact image is empty. A coupon greater than all before it isn't searched for among them, so an image whose coupons
-/// ascend needs no searches.
+/// compact image is empty. A coupon greater than all before it has a value, since the first one is compared with the
+/// greatest coupon that has none, and isn't searched for: an image whose coupons ascend takes one comparison for each.
 fn read_buckets<A: Allocator>(
     list: &mut List<A>,
-    mut cursor: SketchSlice<'_>,
+    cursor: SketchSlice<'_>,
     buckets: usize,
     compact: bool,
 ) -> Result<(), Error>
@@ -284,14 +276,16 @@ fn read_buckets<A: Allocator>(
     ensures ok { OnOk result ((list.new ≡ filled_from_front list.old.lg_size (coupons_at compact buckets cursor.entry)) × AreCoupons (coupons_at compact buckets cursor.entry)) }
     ensures err { IfErr result (λ e. (e ≡ reasons.Coupon) × (AreCoupons (coupons_at compact buckets cursor.entry) → ⊥)) }
 {
-    let mut greatest = 0u32;
-    for _ in 0..buckets {
-        let coupon = Coupon::from_raw(cursor.read_u32_le()?);
-        if coupon.is_empty() && !compact {
-            continue;
-        }
-        if coupon.value() == 0 || list.contains_up_to(coupon, greatest) {
-            return Err(Error::new(Reason::Coupon));
+    let mut greatest = SLOT_MASK;
+    for element in elements_of_raw_coupons(cursor.remaining(), buckets) {
+        let coupon = Coupon::from_raw(u32::from_le_bytes(*element));
+        if coupon.raw() <= greatest {
+            if coupon.is_empty() && !compact {
+                continue;
+            }
+            if coupon.value() == 0 || list.contains(coupon) {
+                return Err(Error::new(Reason::Coupon));
+            }
         }
         list.push(coupon);
         greatest = greatest.max(coupon.raw());

@@ -1,7 +1,8 @@
 // SPDX-License-Identifier: Apache-2.0
 //! Coupons in ascending order, as in canonical images: merged in one pass, and written without a table (docs/FORMAT.md,
 //! "What is written").
-ghost use Rattle.std.specs.Prelude.{◌≡◌, ℕ, List, ◌*◌, ◌^◌, ◌<◌, ◌≤◌, ◌∷◌, ◌++◌, [], drop, length, IfSome, IfNone, IfOk, IfErr};
+ghost use Rattle.std.specs.Prelude.{◌≡◌, ℕ, List, ◌*◌, ◌^◌, ◌<◌, ◌≤◌, ◌↔◌, ◌∷◌, ◌++◌, [], drop, length, map, slice_index, IsTrue, IfSome, IfNone, IfOk, IfErr};
+ghost use Rattle.std.specs.Int.{w32, from_le_bytes};
 ghost use Rattle.std.specs.FinSet.{union};
 ghost use Rattle.std.specs.List.Sorted.{IsStrictlyIncreasing};
 ghost use Rattle.hll_base.specs.declared.error.Reason.TheVariants.{Memory};
@@ -92,6 +93,36 @@ pub fn bytes_of_raw_coupons(bytes: &[u8], count: usize) -> &[u8]
     ensures { result.now ≡ coupon_bytes (raw_coupons count bytes.now) }
 {
     &bytes[..count * COUPON_SIZE_BYTES]
+}
+
+/// Returns the first `count` raw coupons, as elements of four bytes. The bytes have to be there.
+pub fn elements_of_raw_coupons(bytes: &[u8], count: usize) -> &[[u8; 4]]
+    requires { 4 * count ≤ length bytes.now }
+    ensures { map (from_le_bytes w32) result.now ≡ raw_coupons count bytes.now }
+{
+    let (elements, _) = bytes.as_chunks::<4>();
+    &elements[..count]
+}
+
+/// Returns whether each coupon, of four bytes, is less than the next one.
+// (without an exit from the loop, so that the compiler compares several at once)
+pub fn ascends(coupons: &[[u8; 4]]) -> bool
+    ensures { IsTrue result ↔ IsStrictlyIncreasing (map (from_le_bytes w32) coupons.now) }
+{
+    let mut ascends = true;
+    for i in 1..coupons.len() {
+        ascends &= raw_coupon_at(coupons, i - 1) < raw_coupon_at(coupons, i);
+    }
+    ascends
+}
+
+/// Returns the raw coupon of an element.
+#[inline(always)]
+pub fn raw_coupon_at(coupons: &[[u8; 4]], at: usize) -> u32
+    requires { at < length coupons.now }
+    ensures { result ≡ slice_index (map (from_le_bytes w32) coupons.now) at }
+{
+    u32::from_le_bytes(coupons[at])
 }
 
 /// Returns the bytes of the coupons of two ascending lists, merged in ascending order, each once, four bytes each. One

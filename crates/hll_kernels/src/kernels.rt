@@ -193,6 +193,32 @@ pub fn greatest_of(bytes: &[u8]) -> u8
     greatest_one_by_one(&lanes.to_array()).max(greatest_one_by_one(rest))
 }
 
+/// Returns the number of bytes that are 0, and the greatest byte, or 0 if there are none. One pass; allocates nothing.
+pub fn zeros_and_greatest(bytes: &[u8]) -> (usize, u8)
+    ensures zeros { result.0 ≡ zeros bytes.now }
+    ensures bound { result.0 ≤ length bytes.now }
+    ensures greatest { (bound : ℕ) → list_all (λ b. nat_le b bound) bytes.now ≡ nat_le result.1 bound }
+{
+    let (blocks, rest) = bytes.as_chunks::<128>();
+    let mut count = 0;
+    let mut lanes = u8x64::splat(0);
+    for block in blocks {
+        count += zeros_in(block);
+        lanes = lanes.simd_max(greatest_in(block));
+    }
+    let greatest = greatest_one_by_one(&lanes.to_array()).max(greatest_one_by_one(rest));
+    (count + zeros_one_by_one(rest), greatest)
+}
+
+/// Returns the greater of each byte of the first half of a block and the byte at the same place in the second half.
+#[inline(always)]
+fn greatest_in(block: &[u8; 128]) -> u8x64
+    ensures greatest { (bound : ℕ) → list_all (λ b. nat_le b bound) block.now ≡ list_all (λ b. nat_le b bound) result }
+    ensures lanes { length result ≡ 64 }
+{
+    u8x64::from_slice(&block[..]).simd_max(u8x64::from_slice(&block[64..]))
+}
+
 /// Returns the greatest of bytes, compared one after the other.
 fn greatest_one_by_one(bytes: &[u8]) -> u8
     ensures { (bound : ℕ) → list_all (λ b. nat_le b bound) bytes.now ≡ nat_le result bound }
@@ -273,9 +299,7 @@ impl WeightSums {
             high: self.high + others.high,
         }
     }
-}
 
-impl WeightSums {
     /// Returns the sums after one of the registers became `new`, which was `old` before.
     ///
     /// There are at most 2^21 registers, each at most 63.

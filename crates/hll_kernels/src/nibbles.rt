@@ -1,7 +1,7 @@
 // SPDX-License-Identifier: Apache-2.0
 //! 4-bit registers: two in each byte, each the height of a register above a minimum. 15 marks an exception, a register
 //! that is kept elsewhere (docs/FORMAT.md, "Packed registers").
-ghost use Rattle.std.specs.Prelude.{◌≡◌, ℕ, ◌+◌, ◌-◌, ◌*◌, ◌/◌, ◌%◌, ◌^◌, ◌<◌, ◌≤◌, ◌==◌, ◌⊎◌, ◌↔◌, ◌&&◌, nat_le, if◌then◌else◌, [], ◌∷◌, ◌++◌, length, map, count_by, All, IfOk, IfSome, IsSome};
+ghost use Rattle.std.specs.Prelude.{◌≡◌, ℕ, ◌+◌, ◌-◌, ◌*◌, ◌/◌, ◌%◌, ◌^◌, ◌<◌, ◌≤◌, ◌==◌, ◌⊎◌, ◌↔◌, ◌&&◌, nat_le, if◌then◌else◌, [], ◌∷◌, ◌++◌, length, map, count_by, slice_set, All, IfOk, IfSome, IsSome};
 ghost use Rattle.std.specs.List.{list_all};
 ghost use Rattle.std.specs.Simd.Lanes.{chunk, put_chunk, Each1};
 ghost use Rattle.hll_base.specs.Join.{join};
@@ -37,12 +37,25 @@ pub fn put_nibble(bytes: &mut [u8], slot: usize, nibble: u8)
     ensures len { length bytes.new ≡ length bytes.old }
     ensures fits { All (λ b. b < 256) bytes.old → All (λ b. b < 256) bytes.new }
 {
-    let byte = bytes[slot / 2];
-    bytes[slot / 2] = if slot % 2 == 0 {
-        byte / 16 * 16 + nibble
+    let (at, byte) = with_nibble(bytes, slot, nibble);
+    bytes[at] = byte;
+}
+
+/// Returns the index of the byte with the nibble of a slot, and this byte with the nibble set. Its other nibble doesn't change.
+pub fn with_nibble(bytes: &[u8], slot: usize, nibble: u8) -> (usize, u8)
+    requires within { slot < 2 * length bytes.now }
+    requires small { nibble < 16 }
+    ensures within { result.0 < length bytes.now }
+    ensures fits { result.1 < 256 }
+    ensures nibbles { (s : ℕ) → nibble_at (slice_set bytes.now result.0 result.1) s ≡ (if s == slot then nibble else nibble_at bytes.now s) }
+{
+    let at = slot / 2;
+    let byte = bytes[at];
+    if slot % 2 == 0 {
+        (at, byte / 16 * 16 + nibble)
     } else {
-        byte % 16 + nibble * 16
-    };
+        (at, byte % 16 + nibble * 16)
+    }
 }
 
 /// Returns whether no nibble of a block is greater than `greatest`, which is at most 15.

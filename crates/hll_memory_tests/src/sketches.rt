@@ -7,6 +7,7 @@ use crate::harness::{Heap, Trial, requests_of, shown, text};
 use hll_base::error::Error;
 use hll_base::hll_type::HllType;
 use hll_coupons::coupon::Coupon;
+use hll_registers::registers::Use;
 use hll_sketch::HllSketch;
 use hll_sketch::borrowed_image::BorrowedImage;
 use hll_sketch::coupon_room::CouponRoom;
@@ -64,7 +65,7 @@ fn least_registers<'h>(sketch: &HllSketch<&'h Heap>) -> Result<Vec<u8, &'h Heap>
 /// Returns whether the sketch of an image is empty.
 fn is_empty_image(heap: &Heap, image: &[u8]) -> Result<bool, Error> {
     let mut room = CouponRoom::new();
-    Ok(BorrowedImage::read(heap, image, &mut room)?.is_empty())
+    Ok(BorrowedImage::read(heap, image, &mut room, Use::Join)?.is_empty())
 }
 
 /// Takes a sketch, and leaves an empty one in its place.

@@ -1,27 +1,25 @@
 -- SPDX-License-Identifier: Apache-2.0
 -- Lemmas on the parts of an image.
-use Rattle.std.proofs.Common.{◌≡◌, ℕ, ◌+◌, ◌*◌, ◌<◌, ◌≤◌, All, List, [], ◌∷◌, ◌++◌, Bool, true, false, zero, suc, length, take, drop, refl, sym, ap, ◌∙◌, arith}
-use Rattle.std.specs.Prelude.{if◌then◌else◌}
+use Rattle.std.proofs.Common.{◌≡◌, ℕ, ◌+◌, ◌*◌, ◌<◌, ◌≤◌, All, List, [], ◌∷◌, ◌++◌, Option, zero, suc, length, take, drop, refl, sym, ap, subst, ◌∙◌, arith}
 use Rattle.std.specs.List.{flat_map}
-use Rattle.std.proofs.lemmas.List.{append_assoc, append-nil, length-append, drop-drop, take-append-le, drop-append-le}
+use Rattle.std.proofs.lemmas.List.{append_assoc, length-append, drop-drop, take-append-le, drop-append-le}
 use Rattle.std.proofs.Math.Seq.{take-append_seam, take-append-add, drop-append-add}
 use Rattle.std.proofs.Math.ListN.{set}
 use Rattle.std.proofs.Math.Nat.{zero-add}
 use Rattle.hll_kernels.specs.Groups.{IsGroup}
 use Rattle.std.specs.Simd.Lanes.{put_chunk}
 use Rattle.std.proofs.lemmas.Simd.{put_chunk_is, length-put_chunk}
-use mir.Val.{bool_byte}
+use Rattle.hll_base.specs.declared.hll_type.HllType.TheVariants.{Hll4}
+use Rattle.hll_coupons.specs.AuxMap.{ExceptionMap}
+use Rattle.hll_coupons.specs.Coupons.{coupon_bytes, mode_byte, IsAscending, WritesAscending}
+use Rattle.hll_coupons.proofs.Merging.{count_in_bytes}
+use Rattle.hll_registers.specs.FourBits.{exceptions_in, IsOfRegisters, IsPacked}
+use Rattle.hll_registers.specs.Payload.{flag_of, nibble_image, number_bytes, WritesRegisters}
+use Rattle.hll_registers.specs.declared.estimate_state.EstimateState.{EstimateState}
+use Rattle.hll_registers.proofs.FourBits.{packed_is_of_registers}
 
--- a zero byte, or none
-abbrev pub zero_byte : Bool → List ℕ
-zero_byte ends = if ends then 0 ∷ [] else []
-
-pub length-zero_byte : (ends : Bool) → length (zero_byte ends) ≡ bool_byte ends
-length-zero_byte true = refl
-length-zero_byte false = refl
-
-pub length-parts : (S R : List ℕ) (ends : Bool) → length S ≡ 40 → length (S ++ (R ++ zero_byte ends)) ≡ 40 + length R + bool_byte ends
-length-parts S R ends long = omega (arith, length-append S (R ++ zero_byte ends), length-append R (zero_byte ends), length-zero_byte ends, long)
+pub length-parts : (S R E : List ℕ) → length S ≡ 40 → length (S ++ (R ++ E)) ≡ 40 + length R + length E
+length-parts S R E long = omega (arith, length-append S (R ++ E), length-append R E, long)
 
 -- bytes that are put right after those that have been put
 pub put_after : (at : ℕ) (P Q O V W : List ℕ) → at ≡ length P → V ≡ P ++ drop (length P) O → W ≡ take at V ++ (Q ++ drop (at + length Q) V) → W ≡ (P ++ Q) ++ drop (length (P ++ Q)) O
@@ -95,14 +93,23 @@ pub start_put : (S F R O V W : List ℕ) → length S ≡ 40 → F ≡ S → V �
 start_put S F R O V W long same first second =
     put_after 40 S R O V W (sym long) (first ∙ ap (λ n. F ++ drop n O) (zero-add (length F)) ∙ ap (λ P. P ++ drop (length P) O) same) second
 
--- nothing else is put
-pub put_whole : (S R O W X : List ℕ) (ends : Bool) → W ≡ (S ++ R) ++ drop (length (S ++ R)) O → S ++ (R ++ zero_byte ends) ≡ X → ends ≡ false → W ≡ X ++ drop (length X) O
-put_whole S R O W X ends put parts none =
-    put ∙ ap (λ P. P ++ drop (length P) O) (ap (λ Q. S ++ Q) (sym (append-nil R)) ∙ ap (λ b. S ++ (R ++ zero_byte b)) (sym none) ∙ parts)
-
--- a zero byte is put after them
-pub put_with_zero : (at : ℕ) (S R O W Z X : List ℕ) (ends : Bool) → at ≡ length (S ++ R) → W ≡ (S ++ R) ++ drop (length (S ++ R)) O → Z ≡ take at W ++ (0 ∷ [] ++ drop (at + 1) W) → S ++ (R ++ zero_byte ends) ≡ X → ends ≡ true
+-- what follows is put after them
+pub put_with_end : (at : ℕ) (S R E O W Z X : List ℕ) → at ≡ length (S ++ R) → W ≡ (S ++ R) ++ drop (length (S ++ R)) O → Z ≡ take at W ++ (E ++ drop (at + length E) W) → S ++ (R ++ E) ≡ X
     → Z ≡ X ++ drop (length X) O
-put_with_zero at S R O W Z X ends here put third parts is =
-    put_after at (S ++ R) (0 ∷ []) O W Z here put third
-    ∙ ap (λ P. P ++ drop (length P) O) (append_assoc S R (0 ∷ []) ∙ ap (λ b. S ++ (R ++ zero_byte b)) (sym is) ∙ parts)
+put_with_end at S R E O W Z X here put third parts =
+    put_after at (S ++ R) E O W Z here put third ∙ ap (λ P. P ++ drop (length P) O) (append_assoc S R E ∙ parts)
+
+-- ---- 4-bit registers
+
+-- nibbles and exceptions as bytes are what is written for the registers that they are
+pub nibbles_written : (k m n : ℕ) (bytes entries image : List ℕ) (e : Option ExceptionMap) (R : List ℕ) (state : EstimateState) → k ≤ 21 → IsPacked k m n bytes e R → WritesAscending coupon_bytes (exceptions_in e) entries
+    → image ≡ nibble_image k m n bytes entries state → WritesRegisters image k Hll4 R state
+nibbles_written k m n bytes entries image e R state small packed written is =
+    let of : IsOfRegisters k m n bytes e R = packed_is_of_registers k m n bytes e R small packed in
+    record {
+      order = written.order;
+      ascending = subst (IsAscending written.order) of.exceptions_are written.ascending;
+      is = is
+          ∙ (λ i. 10 ∷ 1 ∷ 7 ∷ k ∷ 0 ∷ (8 + flag_of state) ∷ of.minimum_is i ∷ mode_byte 2 Hll4
+          ∷ number_bytes state (of.count_is i) (count_in_bytes entries written.order written.is i) ++ (of.bytes_are i ++ written.is i));
+    }

@@ -9,6 +9,7 @@ pub mod FourBitStores
 pub mod FourBits
 pub mod ImageParts
 pub mod Marked
+pub mod NibbleImages
 pub mod Packing
 pub mod RaisedEntries
 pub mod Raising

@@ -217,6 +217,12 @@ hll4_bytes k R state order =
     10 ∷ 1 ∷ 7 ∷ k ∷ 0 ∷ (8 + flag_of state) ∷ minimum R ∷ mode_byte 2 Hll4
     ∷ number_bytes state (count_at_minimum R) (length order) ++ (nibble_bytes R ++ coupon_bytes order)
 
+-- an image of 4-bit registers: nibbles above a minimum, of which some number are 0, and the bytes of exceptions
+abbrev pub nibble_image : ℕ → ℕ → ℕ → List ℕ → List ℕ → EstimateState → List ℕ
+nibble_image k m low nibbles entries state =
+    10 ∷ 1 ∷ 7 ∷ k ∷ 0 ∷ (8 + flag_of state) ∷ m ∷ mode_byte 2 Hll4
+    ∷ number_bytes state low (length entries / 4) ++ (nibbles ++ entries)
+
 -- the bytes are written for these registers; for 4-bit registers with the exceptions in ascending order
 abbrev pub WritesRegisters : List ℕ → ℕ → HllType → List ℕ → EstimateState → Type 0
 WritesRegisters bytes k Hll4 R state = WritesAscending (hll4_bytes k R state) (set_of (exceptions R)) bytes

@@ -17,6 +17,8 @@ use hll_base::error::Error;
 use hll_coupons::aux_map::{AuxMap, AuxMapRefIter};
 use hll_coupons::aux_map_builder::AuxMapBuilder;
 use hll_coupons::container::with_coupons;
+use hll_coupons::raw_coupons::{bytes_of_raw_coupons, elements_of_raw_coupons};
+use hll_coupons::serialization::COUPON_SIZE_BYTES;
 use hll_kernels::kernels::are_below;
 use hll_kernels::nibbles::{MARK, lower_by, max_with_nibbles, nibble_of, put_nibble};
 use std::alloc::Allocator;
@@ -122,6 +124,37 @@ pub(crate) fn with_exceptions<A: Allocator + Clone>(
             with_coupons(bytes, &entries)
         }
         None => Ok(bytes),
+    }
+}
+
+/// Returns the first bytes, four for each exception, if they are the exceptions as coupons in ascending order. Searches for one
+/// after the other; allocates nothing.
+pub(crate) fn exceptions_in_order<'a, A: Allocator>(
+    map: &Exceptions<A>,
+    bytes: &'a [u8],
+) -> Option<&'a [u8]>
+    ensures order { IfSome result (λ found. WritesAscending coupon_bytes (exceptions_in (unboxed map.now)) found.now) }
+    ensures few { IfSome result (λ found. length found.now ≤ 2 ^ 23) }
+{
+    match map {
+        Some(map) => entries_in_order(map, bytes),
+        None => Some(&[]),
+    }
+}
+
+/// Returns the first bytes, four for each entry of a map, if they are the entries as coupons in ascending order.
+fn entries_in_order<'a, A: Allocator>(map: &AuxMap<A>, bytes: &'a [u8]) -> Option<&'a [u8]>
+    ensures order { IfSome result (λ found. WritesAscending coupon_bytes (exceptions_in (Some map.now)) found.now) }
+    ensures few { IfSome result (λ found. length found.now ≤ 2 ^ 23) }
+{
+    let count = map.len();
+    if bytes.len() / COUPON_SIZE_BYTES < count {
+        return None;
+    }
+    if map.equals_ascending(elements_of_raw_coupons(bytes, count)) {
+        Some(bytes_of_raw_coupons(bytes, count))
+    } else {
+        None
     }
 }
 

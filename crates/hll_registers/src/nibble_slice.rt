@@ -1,37 +1,33 @@
 // SPDX-License-Identifier: Apache-2.0
 //! A slice of nibbles above a minimum, with a map of exceptions, as 4-bit registers (docs/MODEL.md, "4-bit registers").
-ghost use Rattle.std.specs.Prelude.{◌≡◌, ◌*◌, ◌^◌, ◌<◌, ◌≤◌, ◌==◌, ◌↔◌, ℕ, length, IsTrue, IfSome, IfOk, IfErr, OnOk};
+ghost use Rattle.std.specs.Prelude.{◌≡◌, ◌*◌, ◌^◌, ◌<◌, ◌≤◌, ◌==◌, ◌↔◌, ℕ, length, slice_index, slice_set, IsTrue, IfSome, IfOk, IfErr, OnOk};
 ghost use Rattle.std.specs.List.{list_all};
 ghost use Rattle.hll_base.specs.declared.error.Reason.TheVariants.{Memory, Register};
 ghost use Rattle.hll_kernels.specs.Packed.{mark_nibbles, nibble_at, zero_nibbles, zeros};
 ghost use Rattle.hll_registers.specs.FourBits.{exception_in, unboxed, unpacked, IsMapFor};
-ghost use Rattle.hll_registers.specs.Payload.{Agrees};
+ghost use Rattle.hll_base.specs.declared.hll_type.HllType.TheVariants.{Hll4};
+ghost use Rattle.hll_registers.specs.EstimatorFields.{AreEstimatorFields};
+ghost use Rattle.hll_registers.specs.Payload.{Agrees, WritesRegisters};
 ghost use Rattle.hll_registers.specs.State.{cleared_state, IsState};
 
 use crate::agreement::agree;
 use crate::estimate_state::EstimateState;
 use crate::exception_map::{
-    Exceptions, entries_of, has_many_buckets, max_with_registers, register_at,
+    Exceptions, entries_of, exceptions_in_order, has_many_buckets, max_with_registers, register_at,
 };
+use crate::image_parts::ImageParts;
 use crate::nibble_parts::NibbleParts;
 use crate::nibble_registers::NibbleRegisters;
 use crate::nibble_sums::sums_of_few;
-use crate::registers::{Registers, two_to};
+use crate::registers::{Registers, Use, two_to};
 use crate::same_registers::{are_all_in, have_same_registers};
 use hll_base::error::{Error, Reason};
 use hll_kernels::kernels::{WeightSums, all_zero};
-use hll_kernels::nibbles::{count_mark_nibbles, count_zero_nibbles, count_zeros_and_marks};
+use hll_kernels::nibbles::{
+    MARK, count_mark_nibbles, count_zero_nibbles, count_zeros_and_marks, nibble_of, with_nibble,
+};
 use std::alloc::Allocator;
 use std::marker::Model;
-
-/// What the caller will do with borrowed registers.
-#[derive(Clone, Copy)]
-pub enum Use {
-    /// Merge them in place, or only check them.
-    Join,
-    /// Copy them, which needs the number of nibbles that are 0.
-    Copy,
-}
 
 /// 2^`lg_k` registers, two in each borrowed byte, with their estimate state. A nibble is the height of the register
 /// above a minimum, and 15 marks a register that is in a map. The minimum may be below the least register.
@@ -135,6 +131,61 @@ impl<'a, A: Allocator> NibbleSlice<'a, A> {
         }
     }
 
+    /// Returns the image of these registers with another state (docs/FORMAT.md, "What is written"), in parts: the nibbles are
+    /// borrowed, and the exceptions are the first bytes of `after`. One pass if zeros were not counted, and a search for each
+    /// exception, which takes quadratic time if all are on one path; allocates nothing.
+    ///
+    /// Returns `None` if the minimum is below the least register, or if the first bytes of `after` are not the exceptions in
+    /// ascending order.
+    pub fn image_parts(&self, after: &'a [u8], state: EstimateState) -> Option<ImageParts<'a>>
+        ensures { IfSome result (λ image. WritesRegisters image self.now.lg_k Hll4 self.now.registers state) }
+    {
+        let low_count = zeros_or_count(self.zeros, self.nibbles);
+        if low_count == 0 {
+            return None;
+        }
+        let exceptions = exceptions_in_order(&self.exceptions, after)?;
+        Some(ImageParts::of_nibbles(
+            self.lg_k,
+            self.minimum,
+            low_count,
+            self.nibbles,
+            exceptions,
+            state,
+        ))
+    }
+
+    /// Returns the image of these registers with the register of a slot raised to a value, and its estimator fields set, in parts
+    /// as `image_parts` does. One more pass, which sums weights.
+    ///
+    /// Also returns `None` if the register or the value is an exception, or if the raised register was the last at the minimum.
+    pub fn raised_parts(&self, after: &'a [u8], slot: usize, value: u8) -> Option<ImageParts<'a>>
+        requires slot { slot < 2 ^ self.now.lg_k }
+        requires greater { slice_index self.now.registers slot < value }
+        requires most { value ≤ 63 }
+        ensures { IfSome result (λ image. (state : EstimateState) × AreEstimatorFields (slice_set self.now.registers slot value) state
+            × WritesRegisters image self.now.lg_k Hll4 (slice_set self.now.registers slot value) state) }
+    {
+        let old = nibble_of(self.nibbles, slot);
+        let new = value - self.minimum;
+        let at_minimum = u32::from(old == 0);
+        let low_count = zeros_or_count(self.zeros, self.nibbles);
+        if MARK <= new || low_count <= at_minimum {
+            return None;
+        }
+        let exceptions = exceptions_in_order(&self.exceptions, after)?;
+        let sums = self.weight_sums().replaced(self.minimum + old, value);
+        Some(ImageParts::replacing_nibbles(
+            self.lg_k,
+            self.minimum,
+            low_count - at_minimum,
+            self.nibbles,
+            with_nibble(self.nibbles, slot, new),
+            exceptions,
+            EstimateState::of_sums(sums),
+        ))
+    }
+
     /// Returns the number of registers that are 0. One pass if the minimum is 0 and the nibbles were not counted.
     pub fn num_zeros(&self) -> u32
         ensures { result ≡ zeros self.now.registers }
@@ -142,10 +193,7 @@ impl<'a, A: Allocator> NibbleSlice<'a, A> {
         if self.minimum > 0 {
             return 0;
         }
-        match self.zeros {
-            Some(zeros) => zeros,
-            None => count_zero_nibbles(self.nibbles),
-        }
+        zeros_or_count(self.zeros, self.nibbles)
     }
 
     /// Returns whether all registers are 0.
@@ -202,11 +250,20 @@ impl<'a, A: Allocator + Clone> NibbleSlice<'a, A> {
             exceptions,
             state: _,
         } = self;
-        let zeros = match zeros {
-            Some(count) => count,
-            None => count_zero_nibbles(nibbles),
-        };
+        let zeros = zeros_or_count(zeros, nibbles);
         NibbleRegisters::from_parts(alloc, lg_k, minimum, nibbles, zeros, exceptions)
+    }
+}
+
+/// Returns the number of nibbles that are 0. One pass if it isn't known.
+fn zeros_or_count(zeros: Option<u32>, nibbles: &[u8]) -> u32
+    requires few { length nibbles.now ≤ 2 ^ 20 }
+    requires zeros { IfSome zeros (λ n. n ≡ zero_nibbles nibbles.now) }
+    ensures { result ≡ zero_nibbles nibbles.now }
+{
+    match zeros {
+        Some(zeros) => zeros,
+        None => count_zero_nibbles(nibbles),
     }
 }
 
@@ -218,7 +275,7 @@ fn counts_of(nibbles: &[u8], later: Use) -> (Option<u32>, u32)
 {
     match later {
         Use::Join => (None, count_mark_nibbles(nibbles)),
-        Use::Copy => {
+        Use::Count => {
             let (zeros, marks) = count_zeros_and_marks(nibbles);
             (Some(zeros), marks)
         }

@@ -1,6 +1,6 @@
 // SPDX-License-Identifier: Apache-2.0
 //! A slice of bytes as registers.
-ghost use Rattle.std.specs.Prelude.{◌≡◌, ◌^◌, ◌<◌, ◌≤◌, ◌==◌, ◌↔◌, IsTrue, slice_set};
+ghost use Rattle.std.specs.Prelude.{◌≡◌, ◌^◌, ◌<◌, ◌≤◌, ◌==◌, ◌↔◌, IsTrue, IfSome, slice_set};
 ghost use Rattle.std.specs.List.{list_all};
 ghost use Rattle.hll_registers.specs.EstimatorFields.{AreEstimatorFields};
 ghost use Rattle.hll_registers.specs.Payload.{hll8_bytes};
@@ -18,17 +18,21 @@ use std::marker::Model;
 pub struct RegisterSlice<'a> {
     lg_k: u8,
     values: &'a [u8],
+    /// The number of registers that are 0, if they were counted.
+    zero_count: Option<u32>,
     state: EstimateState,
 }
 
 impl<'a> Model for RegisterSlice<'a> {
+    ghost use Rattle.std.specs.Prelude.{◌≡◌, IfSome};
+    ghost use Rattle.hll_kernels.specs.Packed.{zeros};
     ghost use Rattle.hll_registers.specs.Store.{Stored, IsStored};
 
     ghost Value = { Stored };
 
     ghost view = { λ l. record { lg_k = l.lg_k; registers = l.values.now; state = l.state } };
 
-    ghost invariant = { λ l. IsStored (record { lg_k = l.lg_k; registers = l.values.now; state = l.state }) };
+    ghost invariant = { λ l. IsStored (record { lg_k = l.lg_k; registers = l.values.now; state = l.state }) × IfSome l.zero_count (λ n. n ≡ zeros l.values.now) };
 }
 
 impl<'a> RegisterSlice<'a> {
@@ -42,6 +46,7 @@ impl<'a> RegisterSlice<'a> {
         RegisterSlice {
             lg_k,
             values,
+            zero_count: None,
             state: EstimateState::CLEARED,
         }
     }
@@ -54,8 +59,23 @@ impl<'a> RegisterSlice<'a> {
         RegisterSlice { state, ..self }
     }
 
-    /// Returns the image of these registers with another state (docs/FORMAT.md, "What is written"), in parts. One pass that
-    /// counts zeros.
+    /// Returns these registers with the number of zeros among them, if it is known.
+    pub fn with_zero_count(self, zero_count: Option<u32>) -> RegisterSlice<'a>
+        requires { IfSome zero_count (λ n. n ≡ zeros self.registers) }
+        ensures { result ≡ self.entry }
+    {
+        RegisterSlice { zero_count, ..self }
+    }
+
+    /// Returns the registers, without their `lg_k` and state.
+    pub fn values(&self) -> &'a [u8]
+        ensures { result.now ≡ self.now.registers }
+    {
+        self.values
+    }
+
+    /// Returns the image of these registers with another state (docs/FORMAT.md, "What is written"), in parts. One pass if
+    /// zeros were not counted.
     pub fn image_parts(&self, state: EstimateState) -> ImageParts<'a>
         ensures { result ≡ hll8_bytes self.now.lg_k self.now.registers state }
     {
@@ -63,7 +83,7 @@ impl<'a> RegisterSlice<'a> {
     }
 
     /// Returns the image of these registers with the register of a slot raised to a value, and its estimator fields set, in parts.
-    /// Two passes: one counts zeros, one sums weights.
+    /// One pass that sums weights, and one more if zeros were not counted.
     ///
     /// `slot` is below 2^`lg_k`, and `value` is 1 to 63.
     pub fn raised_parts(&self, slot: usize, value: u8) -> ImageParts<'a>
@@ -79,11 +99,14 @@ impl<'a> RegisterSlice<'a> {
         ImageParts::replacing_byte(self.lg_k, self.values, slot, value, zeros, state)
     }
 
-    /// Returns the number of registers that are 0. One pass.
+    /// Returns the number of registers that are 0. One pass if they were not counted.
     pub fn num_zeros(&self) -> u32
         ensures { result ≡ zeros self.now.registers }
     {
-        count_zeros(self.values) as u32
+        match self.zero_count {
+            Some(count) => count,
+            None => count_zeros(self.values) as u32,
+        }
     }
 
     /// Returns whether all registers are 0.

@@ -12,6 +12,15 @@ use crate::estimate_state::EstimateState;
 use crate::nibble_parts::NibbleParts;
 use hll_kernels::kernels::{WeightSums, weight_sums};
 
+/// What the caller will do with borrowed registers. The pass that checks them can count zeros too.
+#[derive(Clone, Copy)]
+pub enum Use {
+    /// Merge them, or only check them: zeros are not counted.
+    Join,
+    /// Copy them or estimate from them, which needs the number of zeros.
+    Count,
+}
+
 /// 2^`lg_k` registers of 0 to 63, and their estimate state. No call allocates.
 pub trait Registers {
     /// What contracts see: the `lg_k`, the list of registers, and the estimate state.

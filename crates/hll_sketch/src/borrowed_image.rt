@@ -27,7 +27,7 @@ use hll_base::hll_type::HllType;
 use hll_registers::group_slice::GroupSlice;
 use hll_registers::nibble_slice::NibbleSlice;
 use hll_registers::register_slice::RegisterSlice;
-use hll_registers::registers::Registers;
+use hll_registers::registers::{Registers, Use};
 use std::alloc::{Allocator, Global};
 
 /// The sketch of an image. Only a table, or a map for the exceptions of 4-bit registers, is allocated for it.
@@ -60,7 +60,8 @@ impl<'a, A: Allocator> Drop for BorrowedImage<'a, A> {
 
 impl<'a, A: Allocator + Clone> BorrowedImage<'a, A> {
     /// Reads an image of any stage and width. Bytes after the image are ignored. Up to 128 coupons of an updatable image are
-    /// copied into `room`.
+    /// copied into `room`. The pass that checks registers of 8 or 4 bits also counts what a
+    /// later `Use` needs.
     ///
     /// Fails with the reason of the first check that the image fails, or else with `Memory`. Allocates only once all bytes that
     /// the image needs are there: a table for coupons, except for at most 128 or ascending ones in a compact image and for 1 to
@@ -69,6 +70,7 @@ impl<'a, A: Allocator + Clone> BorrowedImage<'a, A> {
         alloc: A,
         image: &'a [u8],
         room: &'a mut CouponRoom,
+        later: Use,
     ) -> Result<BorrowedImage<'a, A>, Error>
         ensures ok { IfOk result (λ r. IsReadAs image.now (sketch_of_borrowed r)) }
         ensures table { IfOk result HasCouponsInTable }
@@ -78,7 +80,7 @@ impl<'a, A: Allocator + Clone> BorrowedImage<'a, A> {
         let header = Header::read(image)?;
         match header.stage {
             Stage::List | Stage::Set => read_coupons(&alloc, image, header, room),
-            Stage::Hll => read_registers(&alloc, image, header),
+            Stage::Hll => read_registers(&alloc, image, header, later),
         }
     }
 }
@@ -203,6 +205,7 @@ fn read_registers<'a, A: Allocator + Clone>(
     alloc: &A,
     image: &'a [u8],
     header: Header,
+    later: Use,
 ) -> Result<BorrowedImage<'a, A>, Error>
     requires has { HasHeader image.now 2 }
     requires header { header ≡ header_of image.now }
@@ -213,7 +216,7 @@ fn read_registers<'a, A: Allocator + Clone>(
 {
     match header.hll_type {
         HllType::Hll4 => {
-            let registers = four_bit_registers(alloc, image, header)?;
+            let registers = four_bit_registers(alloc, image, header, later)?;
             Ok(BorrowedImage::Nibbles(registers))
         }
         HllType::Hll6 => {
@@ -221,7 +224,7 @@ fn read_registers<'a, A: Allocator + Clone>(
             Ok(BorrowedImage::Groups(registers))
         }
         HllType::Hll8 => {
-            let registers = eight_bit_registers(image, header)?;
+            let registers = eight_bit_registers(image, header, later)?;
             Ok(BorrowedImage::Bytes(registers))
         }
     }

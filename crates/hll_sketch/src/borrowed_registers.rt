@@ -22,6 +22,7 @@ use hll_base::hll_type::HllType;
 use hll_registers::group_slice::GroupSlice;
 use hll_registers::nibble_slice::NibbleSlice;
 use hll_registers::register_slice::RegisterSlice;
+use hll_registers::registers::Use;
 use std::alloc::{Allocator, Global};
 
 /// The registers of an image: borrowed from its bytes, or computed from its coupons at its `lg_k`.
@@ -166,7 +167,7 @@ fn lying_registers<'a, A: Allocator + Clone>(
 {
     match header.hll_type {
         HllType::Hll4 => {
-            let registers = four_bit_registers(alloc, image, header)?;
+            let registers = four_bit_registers(alloc, image, header, Use::Join)?;
             // makes known that the registers are legal
             let _lg_k = registers.lg_k();
             Ok(BorrowedRegisters::Nibbles(registers))
@@ -178,7 +179,7 @@ fn lying_registers<'a, A: Allocator + Clone>(
             Ok(BorrowedRegisters::Groups(registers))
         }
         HllType::Hll8 => {
-            let registers = eight_bit_registers(image, header)?;
+            let registers = eight_bit_registers(image, header, Use::Join)?;
             // makes known that the registers are legal
             let _lg_k = registers.lg_k();
             Ok(BorrowedRegisters::Bytes(registers))

@@ -39,7 +39,7 @@ pub use coupon_images::{
 };
 pub use header::Stage;
 pub use mode::Mode;
-pub use raw_coupons::{ascends, max_coupon};
+pub use raw_coupons::max_coupon;
 pub use register_images::{register_image_at, register_image_with};
 pub use sketch::HllSketch;
 pub use totals::{RegisterTotals, Totals};

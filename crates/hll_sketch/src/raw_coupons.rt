@@ -25,7 +25,9 @@ use hll_arrays::registers::two_to;
 use hll_base::bounds::SLOT_BITS;
 use hll_base::cursor::SketchSlice;
 use hll_coupons::coupon::Coupon;
-use hll_coupons::raw_coupons::{RawCouponIter, bytes_of_raw_coupons};
+use hll_coupons::raw_coupons::{
+    RawCouponIter, ascends, bytes_of_raw_coupons, elements_of_raw_coupons, raw_coupon_at,
+};
 use hll_coupons::serialization::{
     COUPON_SIZE_BYTES, LG_LEAST_SET_BUCKETS, LG_LIST_BUCKETS, LG_SET_BELOW_LG_K,
 };
@@ -81,8 +83,7 @@ impl<'a> RawCoupons<'a> {
     pub(crate) fn elements(&self) -> &'a [[u8; 4]]
         ensures { map (from_le_bytes w32) result.now ≡ raw_coupons self.now.count self.now.bytes.now }
     {
-        let (elements, _) = self.bytes.as_chunks::<4>();
-        &elements[..self.count]
+        elements_of_raw_coupons(self.bytes, self.count)
     }
 
     /// Returns whether each coupon has a value above 0, and is greater than the one before it.
@@ -191,27 +192,6 @@ impl<'a> RawCoupons<'a> {
             }
         }
     }
-}
-
-/// Returns whether each coupon, of four bytes, is less than the next one.
-// (without an exit from the loop, so that the compiler compares several at once)
-pub fn ascends(coupons: &[[u8; 4]]) -> bool
-    ensures { IsTrue result ↔ IsStrictlyIncreasing (map (from_le_bytes w32) coupons.now) }
-{
-    let mut ascends = true;
-    for i in 1..coupons.len() {
-        ascends &= raw_coupon_at(coupons, i - 1) < raw_coupon_at(coupons, i);
-    }
-    ascends
-}
-
-/// Returns the raw coupon of an element.
-#[inline(always)]
-fn raw_coupon_at(coupons: &[[u8; 4]], at: usize) -> u32
-    requires { at < length coupons.now }
-    ensures { result ≡ slice_index (map (from_le_bytes w32) coupons.now) at }
-{
-    u32::from_le_bytes(coupons[at])
 }
 
 /// Raises the register of the coupon's slot modulo 2^`lg_k` to the coupon's value, if that is greater.

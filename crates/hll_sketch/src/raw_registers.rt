@@ -19,6 +19,7 @@ use hll_base::error::Error;
 use hll_registers::group_slice::GroupSlice;
 use hll_registers::nibble_slice::NibbleSlice;
 use hll_registers::register_slice::RegisterSlice;
+use hll_registers::registers::Use;
 use std::alloc::Allocator;
 
 /// Evaluates an expression with the registers of an image of any width, whose header has been read. `source` is a
@@ -29,7 +30,12 @@ macro_rules! with_registers {
     ($alloc:expr, $bytes:expr, $header:expr, $source:ident => $result:expr) => {
         match $header.hll_type {
             hll_base::hll_type::HllType::Hll4 => {
-                let $source = $crate::raw_registers::four_bit_registers($alloc, $bytes, $header)?;
+                let $source = $crate::raw_registers::four_bit_registers(
+                    $alloc,
+                    $bytes,
+                    $header,
+                    hll_registers::registers::Use::Join,
+                )?;
                 $result
             }
             hll_base::hll_type::HllType::Hll6 => {
@@ -37,7 +43,11 @@ macro_rules! with_registers {
                 $result
             }
             hll_base::hll_type::HllType::Hll8 => {
-                let $source = $crate::raw_registers::eight_bit_registers($bytes, $header)?;
+                let $source = $crate::raw_registers::eight_bit_registers(
+                    $bytes,
+                    $header,
+                    hll_registers::registers::Use::Join,
+                )?;
                 $result
             }
         }
@@ -54,6 +64,7 @@ pub(crate) fn four_bit_registers<'a, A: Allocator + Clone>(
     alloc: &A,
     bytes: &'a [u8],
     header: Header,
+    later: Use,
 ) -> Result<NibbleSlice<'a, A>, Error>
     requires has { HasHeader bytes.now 2 }
     requires width { width_bits bytes.now ≡ 0 }
@@ -69,13 +80,18 @@ pub(crate) fn four_bit_registers<'a, A: Allocator + Clone>(
         header.lg_k,
         AuxFormat::from_header(header.compact, header.lg_arr),
         header.out_of_order,
+        later,
     )
 }
 
 /// Returns the registers of an image of 8-bit registers.
 ///
 /// Fails with the reason of the first check that they fail.
-pub(crate) fn eight_bit_registers(bytes: &[u8], header: Header) -> Result<RegisterSlice<'_>, Error>
+pub(crate) fn eight_bit_registers(
+    bytes: &[u8],
+    header: Header,
+    later: Use,
+) -> Result<RegisterSlice<'_>, Error>
     requires has { HasHeader bytes.now 2 }
     requires width { width_bits bytes.now ≡ 2 }
     requires header { header ≡ header_of bytes.now }
@@ -83,8 +99,7 @@ pub(crate) fn eight_bit_registers(bytes: &[u8], header: Header) -> Result<Regist
     ensures err { IfErr result (λ e. (e ≢ Memory) × (first_fault bytes.now ≡ Some e)) }
 {
     let payload = SketchSlice::new(&bytes[HEADER_SIZE..]);
-    let (registers, state) = read_registers(payload, header.lg_k, header.out_of_order)?;
-    Ok(RegisterSlice::new(header.lg_k, registers).with_state(state))
+    read_registers(payload, header.lg_k, header.out_of_order, later)
 }
 
 /// Returns the registers of an image of 6-bit registers.

@@ -16,9 +16,9 @@ ghost use Rattle.hll_state.specs.Registers.{values};
 
 use crate::header::{CouponTable, Header, Held, most_used};
 use crate::registers::{is_raised, promote, raise};
+use hll_coupons::raw_coupons::ascends;
 use hll_registers::estimate_state::EstimateState;
 use hll_registers::registers::two_to;
-use hll_sketch::ascends;
 use hll_sketch::stage::stage;
 
 impl Header {

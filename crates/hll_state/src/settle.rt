@@ -8,7 +8,7 @@ ghost use Rattle.hll_state.specs.CouponRun.{raws};
 
 use crate::elements::sort;
 use crate::merge::{dedup, merge};
-use hll_sketch::ascends;
+use hll_coupons::raw_coupons::ascends;
 
 /// Sorts the first `used` coupons, of which the first `run` are meant to ascend. Returns the number of distinct coupons, which
 /// ascend in the first elements afterwards.

@@ -14,9 +14,9 @@ use hll_kernels::groups::pack_groups;
 use hll_kernels::nibbles::packed_nibbles;
 use hll_registers::exception_map::Exceptions;
 use hll_registers::group_slice::GroupSlice;
-use hll_registers::nibble_slice::{NibbleSlice, Use};
+use hll_registers::nibble_slice::NibbleSlice;
 use hll_registers::register_slice::RegisterSlice;
-use hll_registers::registers::two_to;
+use hll_registers::registers::{Use, two_to};
 use std::alloc::{AllocError, Global};
 use std::test::Fail;
 

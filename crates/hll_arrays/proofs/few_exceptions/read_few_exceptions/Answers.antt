@@ -26,8 +26,8 @@ agree-requires-clause-there c =
     let frame = c.in-Ok.ensures.ok c.args.cur_min in
     omega (arith, frame.0.there, frame.2, ap length frame.4, length-drop (32 + 2 ^ (c.args.lg_config_k - 1)) c.args.cursor)
 
-pub elements_of-requires : goal.elements_of-requires
-elements_of-requires c =
+pub elements_of_raw_coupons-requires : goal.elements_of_raw_coupons-requires
+elements_of_raw_coupons-requires c =
     let frame = c.in-Ok.ensures.ok c.args.cur_min in
     omega (arith, frame.0.there, frame.2, ap length frame.4, length-drop (32 + 2 ^ (c.args.lg_config_k - 1)) c.args.cursor)
 
@@ -47,9 +47,9 @@ returns-clause-registers c =
     let h : Hll4Shape = shape_of_hll4 c.args.lg_config_k c.args.cur_min Compact in
     let b : List ℕ = c.args.cursor in
     let frame = c.in-Ok.ensures.ok c.args.cur_min in
-    let order : map (from_le_bytes w32) c.elements_of.result.now ≡ entries_of h b = c.elements_of.ensures ∙ (λ i. raw_coupons (frame.2 i) (frame.4 i)) in
+    let order : map (from_le_bytes w32) c.elements_of_raw_coupons.result.now ≡ entries_of h b = c.elements_of_raw_coupons.ensures ∙ (λ i. raw_coupons (frame.2 i) (frame.4 i)) in
     (λ i. registers_with h.lg_k h.minimum (frame.3 i) (order i)) ∙ sym (registers-front h b frame.0)
 
 pub returns-clause-parts : goal.returns-clause-parts
 returns-clause-parts c =
-    (refl, subst (HasExceptions c.args.lg_config_k c.args.cur_min c.in-Ok.frame.nibbles.now) (sym c.elements_of.ensures) (c.agree.ensures c.if-not-agree.false))
+    (refl, subst (HasExceptions c.args.lg_config_k c.args.cur_min c.in-Ok.frame.nibbles.now) (sym c.elements_of_raw_coupons.ensures) (c.agree.ensures c.if-not-agree.false))

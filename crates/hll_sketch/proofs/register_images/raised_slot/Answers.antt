@@ -32,3 +32,6 @@ returns-else-get-raw_coupon-clause-none g c =
     let at = folded c.args.raw_coupon k c.two_to.result c.lg_k.result c.two_to.ensures c.lg_k.ensures.lg_k legal.high in
     let got : c.get.result ≡ get_or x.registers (slot_of c.args.raw_coupon % 2 ^ k) 0 = c.get.ensures ∙ ap (λ i. get_or x.registers i 0) at in
     sym (update_with_pairs-low k x.registers c.args.raw_coupon legal.registers.size x.state (omega (arith, c.if-get-raw_coupon.false, got)))
+
+pub returns-then-get-raw_coupon-clause-greater : goal.returns-then-get-raw_coupon-clause-greater
+returns-then-get-raw_coupon-clause-greater g c = omega (arith, c.if-get-raw_coupon.true, c.get.ensures)

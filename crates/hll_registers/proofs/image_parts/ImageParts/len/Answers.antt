@@ -10,4 +10,4 @@ pub returns : goal.returns
 returns c =
     let x = c.self.inside in
     let C : List ℕ = take x.change.count x.change.bytes in
-    omega (arith, c.from.ensures, length-parts (flat_map (λ b. b) x.start) (put_chunk x.change.at x.registers.now C) x.ends_in_zero c.self.invariant.0, length-put_chunk x.change.at x.registers.now C, ap length c.self.view_is)
+    omega (arith, length-parts (flat_map (λ b. b) x.start) (put_chunk x.change.at x.registers.now C) x.end.now c.self.invariant.0, length-put_chunk x.change.at x.registers.now C, ap length c.self.view_is)

@@ -5,5 +5,5 @@ use Rattle.hll_registers.proofs.register_slice.RegisterSlice.image_parts.Goals a
 
 pub of_bytes-requires-clause-few : goal.of_bytes-requires-clause-few
 of_bytes-requires-clause-few c =
-    let bound : 2 ^ c.self.inside.lg_k ≤ 2 ^ 21 = pow-le-pow_right {n = 2} (omega arith) c.self.invariant.high in
-    omega (arith, c.self.invariant.registers.size, bound)
+    let bound : 2 ^ c.self.inside.lg_k ≤ 2 ^ 21 = pow-le-pow_right {n = 2} (omega arith) c.self.invariant.0.high in
+    omega (arith, c.self.invariant.0.registers.size, bound)

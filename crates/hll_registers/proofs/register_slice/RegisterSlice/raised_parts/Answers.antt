@@ -11,21 +11,21 @@ few n k size most =
     omega (arith, size, bound)
 
 pub weight_sums-requires-clause-few : goal.weight_sums-requires-clause-few
-weight_sums-requires-clause-few c = few (length c.self.inside.values.now) c.self.inside.lg_k c.self.invariant.registers.size c.self.invariant.high
+weight_sums-requires-clause-few c = few (length c.self.inside.values.now) c.self.inside.lg_k c.self.invariant.0.registers.size c.self.invariant.0.high
 
 pub replaced-sums-requires : goal.replaced-sums-requires
 replaced-sums-requires c =
     let R = c.self.inside.values.now in
-    let inside : c.args.slot < length R = omega (arith, c.requires.slot, c.self.invariant.registers.size, ap (λ (l : Stored). 2 ^ l.lg_k) c.self.view_is) in (
+    let inside : c.args.slot < length R = omega (arith, c.requires.slot, c.self.invariant.0.registers.size, ap (λ (l : Stored). 2 ^ l.lg_k) c.self.view_is) in (
       R,
       c.args.slot,
       c.weight_sums.ensures,
       inside,
       refl,
-      few (length R) c.self.inside.lg_k c.self.invariant.registers.size c.self.invariant.high,
+      few (length R) c.self.inside.lg_k c.self.invariant.0.registers.size c.self.invariant.0.high,
       c.requires.most,
-      c.self.invariant.registers.small c.args.slot 0 inside,
+      c.self.invariant.0.registers.small c.args.slot 0 inside,
     )
 
 pub replacing_byte-requires-clause-few : goal.replacing_byte-requires-clause-few
-replacing_byte-requires-clause-few c = few (length c.self.inside.values.now) c.self.inside.lg_k c.self.invariant.registers.size c.self.invariant.high
+replacing_byte-requires-clause-few c = few (length c.self.inside.values.now) c.self.inside.lg_k c.self.invariant.0.registers.size c.self.invariant.0.high

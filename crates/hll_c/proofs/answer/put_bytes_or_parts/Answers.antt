@@ -1,9 +1,9 @@
 -- SPDX-License-Identifier: Apache-2.0
 use Rattle.std.proofs.Common.{sym, ap, ◌∙◌}
 use Rattle.hll_base.specs.Reason.{number_of}
-use Rattle.hll_c.specs.Written.{bytes_of}
+use Rattle.hll_c.specs.BytesOrParts.{bytes_of}
 use Rattle.hll_c.proofs.Answers.{puts_of, puts_nothing}
-use Rattle.hll_c.proofs.answer.put_written.Goals as goal
+use Rattle.hll_c.proofs.answer.put_bytes_or_parts.Goals as goal
 
 pub returns-in-Ok-Bytes : goal.returns-in-Ok-Bytes
 returns-in-Ok-Bytes c =

@@ -1,8 +1,8 @@
 -- SPDX-License-Identifier: Apache-2.0
 use Rattle.std.proofs.Common.{◌/◌, length, map, take, ap, ◌∙◌, arith}
 use Rattle.std.specs.Int.{w32, from_le_bytes}
-use Rattle.hll_arrays.proofs.Elements.{raws-chunks}
-use Rattle.hll_arrays.proofs.few_exceptions.elements_of.Goals as goal
+use Rattle.hll_coupons.proofs.Elements.{raws-chunks}
+use Rattle.hll_coupons.proofs.raw_coupons.elements_of_raw_coupons.Goals as goal
 
 pub returns : goal.returns
 returns c =

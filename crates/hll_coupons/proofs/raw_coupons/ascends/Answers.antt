@@ -3,7 +3,7 @@ use Rattle.std.proofs.Common.{ℕ, List, length, inl, inr, arith}
 use Rattle.std.specs.Int.{w32, from_le_bytes}
 use Rattle.std.proofs.lemmas.Bool.{cases_lt}
 use Rattle.std.proofs.lemmas.List.{length-map}
-use Rattle.hll_sketch.proofs.raw_coupons.ascends.Goals as goal
+use Rattle.hll_coupons.proofs.raw_coupons.ascends.Goals as goal
 
 pub returns : goal.returns
 returns c =

@@ -2,7 +2,7 @@
 use Rattle.std.proofs.Common.{ℕ, ◌+◌, ◌<◌, ◌≤◌, ◌↔◌, length, get_or, map}
 use Rattle.std.specs.Int.{w32, from_le_bytes}
 use Rattle.std.specs.Prelude.{IsTrue}
-use Rattle.hll_sketch.proofs.raw_coupons.ascends.Given as goal
+use Rattle.hll_coupons.proofs.raw_coupons.ascends.Given as goal
 
 -- whether the coupons before the i-th one ascend
 abbrev pub invariant-loop-i : goal.invariant-loop-i

@@ -1,0 +1,11 @@
+-- SPDX-License-Identifier: Apache-2.0
+use Rattle.std.proofs.Common.{◌≡◌, ℕ, ◌*◌, ◌==◌, count_by, take}
+use Rattle.std.specs.Prelude.{nat_le}
+use Rattle.std.specs.List.{list_all}
+use Rattle.hll_kernels.proofs.kernels.zeros_and_greatest.Given as goal
+
+-- the count, and the greatest of each lane, so far
+abbrev pub invariant-loop-block : goal.invariant-loop-block
+invariant-loop-block l =
+    (l.count ≡ count_by (λ v. v == 0) (take (l.block-index * 128) l.bytes))
+    × ((bound : ℕ) → list_all (λ b. nat_le b bound) (take (l.block-index * 128) l.bytes) ≡ list_all (λ b. nat_le b bound) l.lanes)
