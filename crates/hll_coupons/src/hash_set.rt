@@ -6,7 +6,6 @@ ghost use Rattle.std.specs.Int.{w32, to_le_bytes};
 ghost use Rattle.hll_base.specs.declared.error.Reason.TheVariants.{Memory};
 ghost use Rattle.hll_base.specs.declared.error.Reason.TheVariants as reasons;
 ghost use Rattle.hll_coupons.specs.Coupons.{WritesAscending, set_bytes, coupons_at, AreCoupons};
-ghost use Rattle.hll_coupons.specs.Coupons as header;
 ghost use Rattle.hll_coupons.specs.Pair.{IsPair, set_of, value_of};
 ghost use Rattle.hll_coupons.specs.Payload.{shape_of_set, HasSetCount, set_coupons, set_buckets, IsSetPayload, IsSetTable, SetFault};
 ghost use Rattle.hll_coupons.specs.HashSet.{IsHashSet};
@@ -21,13 +20,9 @@ use crate::coupon::Coupon;
 use crate::distinct::are_distinct;
 use crate::filling::{put_all, put_by_cycles};
 use crate::search::{Key, SHORT, search, search_within};
-use crate::serialization::{
-    COMPACT_FLAG_MASK, COUPON_SIZE_BYTES, CUR_MODE_SET, HASH_SET_PREINTS, LG_LEAST_SET_BUCKETS,
-    SERIAL_VERSION, SET_PREAMBLE_SIZE, encode_mode_byte,
-};
+use crate::serialization::{COUPON_SIZE_BYTES, LG_LEAST_SET_BUCKETS, set_header};
 use hll_base::cursor::SketchSlice;
 use hll_base::error::{Error, Reason};
-use hll_base::family::Family;
 use hll_base::hll_type::HllType;
 use std::alloc::{Allocator, Global};
 use std::marker::Model;
@@ -462,30 +457,4 @@ fn read_coupons<A: Allocator>(
         coupons.push(coupon)?;
     }
     Ok(coupons)
-}
-
-/// Returns the twelve bytes before the coupons of a set. The last four are the count.
-pub(crate) fn set_header(
-    lg_config_k: u8,
-    hll_type: HllType,
-    lg_size: u8,
-    count: u32,
-) -> [u8; SET_PREAMBLE_SIZE]
-    ensures { result ≡ header.set_header lg_config_k hll_type lg_size ++ to_le_bytes w32 count }
-{
-    let [first, second, third, fourth] = u32::to_le_bytes(count);
-    [
-        HASH_SET_PREINTS,
-        SERIAL_VERSION,
-        Family::HLL.id,
-        lg_config_k,
-        lg_size,
-        COMPACT_FLAG_MASK,
-        0,
-        encode_mode_byte(CUR_MODE_SET, hll_type as u8),
-        first,
-        second,
-        third,
-        fourth,
-    ]
 }

@@ -9,18 +9,13 @@ ghost use Rattle.hll_coupons.specs.Pair.{value_of};
 ghost use Rattle.hll_coupons.specs.Table.{coupons_in, coupons_of, empty_table, filled_from_front, coupons_with, IsFilledFromFront};
 ghost use Rattle.hll_coupons.specs.Coupons.{WritesAscending, list_bytes, coupons_at, AreCoupons};
 ghost use Rattle.hll_coupons.specs.Payload.{shape_of_list, HasListCount, list_buckets, list_table, IsListPayload, ListFault};
-ghost use Rattle.hll_coupons.specs.Coupons as header;
 
 use crate::container::{Container, Insertion, buckets_of};
 use crate::coupon::{Coupon, SLOT_MASK};
 use crate::raw_coupons::elements_of_raw_coupons;
-use crate::serialization::{
-    COMPACT_FLAG_MASK, COUPON_SIZE_BYTES, CUR_MODE_LIST, EMPTY_FLAG_MASK, LG_LIST_BUCKETS,
-    LIST_PREAMBLE_SIZE, LIST_PREINTS, SERIAL_VERSION, encode_mode_byte,
-};
+use crate::serialization::{COUPON_SIZE_BYTES, LG_LIST_BUCKETS, list_header};
 use hll_base::cursor::SketchSlice;
 use hll_base::error::{Error, Reason};
-use hll_base::family::Family;
 use hll_base::hll_type::HllType;
 use std::alloc::{Allocator, Global};
 use std::marker::Model;
@@ -291,30 +286,4 @@ fn read_buckets<A: Allocator>(
         greatest = greatest.max(coupon.raw());
     }
     Ok(())
-}
-
-/// Returns the eight bytes before the coupons of a list.
-pub(crate) fn list_header(
-    lg_config_k: u8,
-    hll_type: HllType,
-    count: usize,
-) -> [u8; LIST_PREAMBLE_SIZE]
-    requires { count ≤ 8 }
-    ensures { result ≡ header.list_header lg_config_k hll_type count }
-{
-    let flags = if count == 0 {
-        COMPACT_FLAG_MASK | EMPTY_FLAG_MASK
-    } else {
-        COMPACT_FLAG_MASK
-    };
-    [
-        LIST_PREINTS,
-        SERIAL_VERSION,
-        Family::HLL.id,
-        lg_config_k,
-        LG_LIST_BUCKETS,
-        flags,
-        count as u8,
-        encode_mode_byte(CUR_MODE_LIST, hll_type as u8),
-    ]
 }

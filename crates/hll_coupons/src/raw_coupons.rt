@@ -10,9 +10,7 @@ ghost use Rattle.hll_coupons.specs.Ascending.{without_first, IsLeastFirst};
 ghost use Rattle.hll_coupons.specs.Coupons.{coupon_bytes, list_bytes, set_bytes, raw_coupons, WritesAscending};
 ghost use Rattle.hll_coupons.specs.Pair.{set_of};
 
-use crate::hash_set::set_header;
-use crate::list::list_header;
-use crate::serialization::COUPON_SIZE_BYTES;
+use crate::serialization::{COUPON_SIZE_BYTES, list_header, set_header};
 use hll_base::codec::SketchBytes;
 use hll_base::error::Error;
 use hll_base::hll_type::HllType;

@@ -1,8 +1,13 @@
 // SPDX-License-Identifier: Apache-2.0
-//! The constants of tables and of an image, and its mode byte (docs/FORMAT.md, "The image"). Names that begin with `LG`
-//! are logarithms of numbers of buckets, those that end in `PREINTS` count integers of four bytes, and those that end
-//! in `SIZE` or `BYTES` count bytes.
-ghost use Rattle.std.specs.Prelude.{◌≡◌, ◌+◌, ◌*◌, ◌/◌, ◌%◌};
+//! The constants of tables and of an image, its mode byte, and the headers of a list and of a set (docs/FORMAT.md, "The
+//! image"). Names that begin with `LG` are logarithms of numbers of buckets, those that end in `PREINTS` count integers of
+//! four bytes, and those that end in `SIZE` or `BYTES` count bytes.
+ghost use Rattle.std.specs.Prelude.{◌≡◌, ◌+◌, ◌*◌, ◌/◌, ◌%◌, ◌++◌, ◌≤◌};
+ghost use Rattle.std.specs.Int.{w32, to_le_bytes};
+ghost use Rattle.hll_coupons.specs.Coupons as header;
+
+use hll_base::family::Family;
+use hll_base::hll_type::HllType;
 
 /// The logarithm of the number of buckets of a list: eight buckets.
 pub const LG_LIST_BUCKETS: u8 = 3;
@@ -83,4 +88,56 @@ pub fn encode_mode_byte(cur_mode: u8, tgt_hll_type: u8) -> u8
     ensures { result ≡ cur_mode % 4 + 4 * (tgt_hll_type % 4) }
 {
     (tgt_hll_type & 3) << 2 | cur_mode & 3
+}
+
+/// Returns the eight bytes before the coupons of a list.
+pub(crate) fn list_header(
+    lg_config_k: u8,
+    hll_type: HllType,
+    count: usize,
+) -> [u8; LIST_PREAMBLE_SIZE]
+    requires { count ≤ 8 }
+    ensures { result ≡ header.list_header lg_config_k hll_type count }
+{
+    let flags = if count == 0 {
+        COMPACT_FLAG_MASK | EMPTY_FLAG_MASK
+    } else {
+        COMPACT_FLAG_MASK
+    };
+    [
+        LIST_PREINTS,
+        SERIAL_VERSION,
+        Family::HLL.id,
+        lg_config_k,
+        LG_LIST_BUCKETS,
+        flags,
+        count as u8,
+        encode_mode_byte(CUR_MODE_LIST, hll_type as u8),
+    ]
+}
+
+/// Returns the twelve bytes before the coupons of a set. The last four are the count.
+pub(crate) fn set_header(
+    lg_config_k: u8,
+    hll_type: HllType,
+    lg_size: u8,
+    count: u32,
+) -> [u8; SET_PREAMBLE_SIZE]
+    ensures { result ≡ header.set_header lg_config_k hll_type lg_size ++ to_le_bytes w32 count }
+{
+    let [first, second, third, fourth] = u32::to_le_bytes(count);
+    [
+        HASH_SET_PREINTS,
+        SERIAL_VERSION,
+        Family::HLL.id,
+        lg_config_k,
+        lg_size,
+        COMPACT_FLAG_MASK,
+        0,
+        encode_mode_byte(CUR_MODE_SET, hll_type as u8),
+        first,
+        second,
+        third,
+        fourth,
+    ]
 }
