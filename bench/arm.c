@@ -28,38 +28,50 @@ static void fill(uint8_t *registers)
     registers[77] = 18;
 }
 
-static hll_status called(const char *name, const uint8_t *image, size_t len)
+enum call { CHECK, CONVERT, ESTIMATE, MERGE, UNION, UNION1, CALLS };
+
+static const char *const names[CALLS] = {"check", "convert", "estimate", "merge", "union", "union1"};
+
+static hll_status called(enum call call, const uint8_t *image, size_t len, const hll_bytes *images)
 {
     static uint8_t out[HLL_IMAGE_MAX(12)], registers[COUNT];
-    hll_bytes images[11];
     hll_estimation estimation;
-    size_t size, i;
+    size_t size;
     uint8_t lg_k;
-    for (i = 0; i < 11; i++)
-        images[i].bytes = image, images[i].len = len;
-    if (!strcmp(name, "check"))
+    switch (call) {
+    case CHECK:
         return hll_image_check(image, len);
-    if (!strcmp(name, "convert"))
+    case CONVERT:
         return hll_image_convert(image, len, 0, out, sizeof out, &size);
-    if (!strcmp(name, "estimate"))
+    case ESTIMATE:
         return hll_estimate(image, len, &estimation);
-    if (!strcmp(name, "merge"))
+    case MERGE:
         return hll_registers_merge(registers, COUNT, image, len, &lg_k);
-    return hll_images_unionv(12, 8, images, strcmp(name, "union1") ? 11 : 1, out, sizeof out, &size, NULL);
+    default:
+        return hll_images_unionv(12, 8, images, call == UNION1 ? 1 : 11, out, sizeof out, &size, NULL);
+    }
 }
 
 int main(int argc, char **argv)
 {
     static uint8_t registers[COUNT], image[HLL_IMAGE_MAX(12)];
-    size_t len;
+    hll_bytes images[11];
+    size_t len, i;
+    int call = 0;
     long rounds;
     if (argc != 4)
+        return 2;
+    while (call < CALLS && strcmp(argv[1], names[call]))
+        call++;
+    if (call == CALLS)
         return 2;
     fill(registers);
     if (hll_registers_image(registers, COUNT, (unsigned)atoi(argv[2]), image, sizeof image, &len) != HLL_OK)
         return 1;
+    for (i = 0; i < 11; i++)
+        images[i].bytes = image, images[i].len = len;
     for (rounds = atol(argv[3]); rounds > 0; rounds--)
-        if (called(argv[1], image, len) != HLL_OK)
+        if (called((enum call)call, image, len, images) != HLL_OK)
             return 1;
     return 0;
 }

@@ -1,9 +1,18 @@
 # SPDX-License-Identifier: Apache-2.0
-# For Makefiles that build from prebuilt/. They set TEXT to the text that they need and TOP to the top of the checkout, and
-# then include this file. STATE=fresh on the command line says that scripts/prebuilt.sh was asked already.
+# For Makefiles that build from prebuilt/. They set TEXT to the text that they need, PROCESSOR and CC to what it is for and assembled
+# by, and TOP to the top of the checkout, and then include this file. TEXT_FLAGS are flags to assemble a text with. STATE=fresh on
+# the command line says that scripts/prebuilt.sh was asked already.
 ifndef STATE
 STATE := $(shell $(TOP)/scripts/prebuilt.sh state)
 endif
+
+# No jump of x86-64 crosses a multiple of 32 bytes or ends at one: Intel's processors from Skylake to Comet Lake (2015 to 2020) run
+# such jumps slowly. The assembler of GNU has a flag for it, and clang another. Older ones have none.
+JUMPS := -mbranches-within-32B-boundaries
+TEXT_FLAGS := $(if $(filter x86_64,$(PROCESSOR)),$(shell object=$$(mktemp) || exit; \
+	for flag in -Wa,$(JUMPS) $(JUMPS); do \
+		if $(CC) $$flag -c -x assembler -o "$$object" /dev/null 2>/dev/null; then echo $$flag; break; fi; \
+	done; rm -f "$$object"))
 
 NO_RT := a proved source has changed since prebuilt/ was made, and the command rt, which proves it again, is not on the path
 AGAIN := a proved source has changed since prebuilt/ was made, so it is proved again, which takes minutes

@@ -12,7 +12,7 @@ use std::env;
 use std::error::Error;
 use std::fs;
 use std::path::{Path, PathBuf};
-use std::process::{self, Command};
+use std::process::{self, Command, Stdio};
 
 type Outcome<T = ()> = Result<T, Box<dyn Error>>;
 
@@ -80,7 +80,8 @@ fn build_static() -> Outcome {
     let text_v3 = Some(text.with_file_name("libhll_c_v3.s")).filter(|text| text.is_file());
     let flags: &[&str] = if text_v3.is_some() { &["-DHLL_WITH_V3"] } else { &[] };
 
-    let proved = compile(&text, &out.join("libhll_c.o"), &[])?;
+    let text_flags = text_flags(&out)?;
+    let proved = compile(&text, &out.join("libhll_c.o"), &text_flags)?;
     let mut objects = Vec::new();
     for name in SOURCES {
         objects.push(compile(&c.join(name).with_extension("c"), &out.join(name).with_extension("o"), flags)?);
@@ -89,7 +90,7 @@ fn build_static() -> Outcome {
     objects.push(proved);
     if let Some(text) = text_v3 {
         println!("cargo:rerun-if-changed={}", text.display());
-        objects.push(compile(&text, &out.join("libhll_c_v3.o"), &[])?);
+        objects.push(compile(&text, &out.join("libhll_c_v3.o"), &text_flags)?);
     }
     if is_windows()? {
         rename_all(&objects, &c)?;
@@ -195,6 +196,22 @@ fn compile(source: &Path, object: &Path, own: &[&str]) -> Outcome<PathBuf> {
     let more = from_environment("CFLAGS")?.unwrap_or_default();
     run(tool("CC", "cc")?.args(more.split_whitespace()).args(own).args(flags).arg(object).arg(source))?;
     Ok(object.to_path_buf())
+}
+
+/// Flags to assemble a text with. On x86-64 no jump crosses a multiple of 32 bytes or ends at one: Intel's processors from Skylake
+/// to Comet Lake run such jumps slowly. The assembler of GNU has a flag for it, and clang another. Older ones have none.
+fn text_flags(out: &Path) -> Outcome<Vec<&'static str>> {
+    let empty = out.join("empty.s");
+    fs::write(&empty, "")?;
+    for flag in ["-Wa,-mbranches-within-32B-boundaries", "-mbranches-within-32B-boundaries"] {
+        let mut command = tool("CC", "cc")?;
+        command.args([flag, "-c", "-o"]).arg(out.join("empty.o")).arg(&empty).stderr(Stdio::null());
+        let is_known = matches!(command.status(), Ok(status) if status.success());
+        if processor()? == "x86_64" && is_known {
+            return Ok(vec![flag]);
+        }
+    }
+    Ok(Vec::new())
 }
 
 /// The C files define some calls of hll.h over the proved ones, which get the prefix `proved_` here. If there is also a text for

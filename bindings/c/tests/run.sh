@@ -74,6 +74,42 @@ shown() {
     nm "$@" | sed -n 's/^[0-9a-f]* [A-TV-Za-tv-z] \([^@]*\).*$/\1/p' | grep -v '^HLL_0$' | sort
 }
 
+# Prints the jumps of x86-64 in an object that cross a multiple of 32 bytes or end at one, and a line with the number of all jumps.
+# Jumps through a register or memory don't count: assemblers leave them where they are.
+jumps_in() {
+    objdump -d --no-show-raw-insn "$1" | awk '
+        function number(digits, i, sum) {
+            for (i = 1; i <= length(digits); i++) sum = sum * 16 + index("0123456789abcdef", substr(digits, i, 1)) - 1
+            return sum
+        }
+        /^Disassembly/ { jump = "" }
+        sub(/^ +/, "") && sub(/:\t/, " ") {
+            here = number($1)
+            if (jump != "" && (int((here - 1) / 32) != int(start / 32) || here % 32 == 0)) print jump
+            jump = $2 ~ /^j/ && $3 !~ /^\*/ ? $0 : ""
+            start = here
+            count += jump != ""
+        }
+        END { print count " jumps" }'
+}
+
+test_jumps() {
+    if [ "$(uname -m)" != x86_64 ]; then
+        skip 'jumps' 'only x86-64 has jumps that cross a multiple of 32 bytes'
+        return
+    fi
+    flag=-mbranches-within-32B-boundaries
+    if ! $CC -Wa,$flag -c -x assembler -o "$tests/empty.o" /dev/null 2>/dev/null && ! $CC $flag -c -x assembler -o "$tests/empty.o" /dev/null 2>/dev/null; then
+        skip 'jumps' "the assembler of $CC can't move jumps"
+        return
+    fi
+    for object in "$build"/libhll_c*.o; do
+        jumps_in "$object" > "$tests/jumps"
+        expect "jumps in $(basename "$object" .o)" grep -qx '[0-9]\{4,\} jumps' "$tests/jumps"
+        expect "no jumps in $(basename "$object" .o) that cross 32 bytes" test "$(wc -l < "$tests/jumps")" = 1
+    done
+}
+
 # The numbers that estimates are compared with are those of a computation in Python.
 test_expected() {
     if has python3; then
@@ -546,6 +582,7 @@ if [ $# -gt 1 ]; then
 else
     test_header
     test_names
+    test_jumps
     test_expected
     test_calls
     test_both

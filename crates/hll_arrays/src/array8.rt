@@ -459,7 +459,7 @@ fn checked_zeros(bytes: &[u8], later: Use) -> Result<Option<u32>, Error>
                 return Ok(None);
             }
         }
-        Use::Count => {
+        Use::Count | Use::Copy => {
             let (zeros, greatest) = zeros_and_greatest(bytes);
             if greatest <= MAX_VALUE {
                 return Ok(Some(zeros as u32));

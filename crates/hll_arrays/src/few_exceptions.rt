@@ -11,7 +11,7 @@ ghost use Rattle.hll_kernels.specs.Packed.{nibble_at};
 ghost use Rattle.hll_registers.specs.Payload.{hll4_size, registers_of, shape_of_hll4, Agrees, AreEntries, IsHll4Payload};
 ghost use Rattle.hll_registers.specs.declared.aux_format.AuxFormat.TheVariants.{Compact};
 
-use crate::four_bit_payload::{Hll4Header, coupon_of, frame_of};
+use crate::four_bit_payload::{Hll4Header, frame_of};
 use hll_base::cursor::SketchSlice;
 use hll_coupons::coupon::Coupon;
 use hll_coupons::raw_coupons::elements_of_raw_coupons;
@@ -106,7 +106,7 @@ fn are_exceptions(nibbles: &[u8], entries: &[u8], count: usize, lg_k: u8, minimu
         let Ok(raw_coupon) = cursor.read_u32_le() else {
             return false;
         };
-        let entry = coupon_of(raw_coupon);
+        let entry = Coupon::from_raw(raw_coupon);
         if !is_marked(nibbles, entry, lg_k, minimum) || !is_new(entries, index, entry, lg_k) {
             return false;
         }
@@ -137,7 +137,7 @@ fn is_new(entries: &[u8], count: usize, entry: Coupon, lg_k: u8) -> bool
         let Ok(raw_coupon) = cursor.read_u32_le() else {
             return false;
         };
-        if coupon_of(raw_coupon).slot() as usize % two_to(lg_k) == slot {
+        if Coupon::from_raw(raw_coupon).slot() as usize % two_to(lg_k) == slot {
             return false;
         }
     }

@@ -11,7 +11,6 @@ ghost use Rattle.hll_kernels.specs.Packed.{nibble_at};
 ghost use Rattle.hll_registers.specs.Payload.{state_at, exception_count, exception_buckets, hll4_size, is_compact, lg_table_of, nibbles_of, registers_of, shape_of_hll4, Agrees, AreEntries, FirstHll4Fault, IsHll4Payload, IsWhole};
 ghost use Rattle.hll_registers.specs.State.{IsState};
 
-use hll_base::bounds::SLOT_BITS;
 use hll_base::cursor::SketchSlice;
 use hll_base::error::{Error, Reason};
 use hll_coupons::coupon::Coupon;
@@ -58,7 +57,7 @@ pub(crate) fn read_payload<A: Allocator + Clone>(
     ensures asked { let h = shape_of_hll4 header.lg_config_k header.cur_min header.aux_format in
         IfErr result (λ e. e ≡ Memory → IsWhole h cursor.entry) }
 {
-    let registers = read_slice(&alloc, cursor, header, Use::Count)?;
+    let registers = read_slice(&alloc, cursor, header, Use::Copy)?;
     let state = registers.estimate_state();
     Ok((registers.into_registers(alloc)?, state))
 }
@@ -204,7 +203,7 @@ fn read_entries<A: Allocator + Clone>(
     let mut map = None;
     let mut filled = 0;
     for _ in 0..frame.buckets {
-        let entry = coupon_of(cursor.read_u32_le()?);
+        let entry = Coupon::from_raw(cursor.read_u32_le()?);
         if entry.is_empty() && !frame.compact {
             continue;
         }
@@ -241,11 +240,4 @@ fn put_entry<A: Allocator + Clone>(
         return Err(Error::new(Reason::Coupon));
     }
     add_exception(map, alloc, lg_config_k, slot, entry.value())
-}
-
-/// Returns the coupon with this code.
-pub(crate) fn coupon_of(raw: u32) -> Coupon
-    ensures { result ≡ raw }
-{
-    Coupon::pack(raw, (raw >> SLOT_BITS) as u8)
 }

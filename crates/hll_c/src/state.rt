@@ -15,6 +15,7 @@ ghost use Rattle.hll_state.specs.Header.{IsWithin, AreWithin, HasRoom};
 ghost use Rattle.hll_state.specs.Header as headers;
 ghost use Rattle.hll_state.specs.Memory.{HasHeader, IsOnlyRead, IsSettled, KeepsWidths};
 ghost use Rattle.hll_state.specs.Memory.{is_open as is_lg_k_open};
+ghost use Rattle.hll_state.specs.Merged.{HasLegalRegisters};
 ghost use Rattle.hll_state.specs.Registers.{values};
 ghost use Rattle.hll_c.specs.Answers.{buffer_code, Answers, IsImageOf, WithFields};
 ghost use Rattle.hll_c.specs.Batches.{AreEnds, strings};
@@ -40,9 +41,9 @@ use hll_registers::registers::Registers;
 use hll_sketch::coupon_images::coupon_image;
 use hll_state::header::{CouponTable, HEADER_LEN, Header, Held};
 use hll_state::memory::{
-    Begun, add_in_place, begin, close, has_raised, is_open, resolve, set_open,
+    Begun, add_in_place, begin, begin_with, close, has_raised, is_open, open, resolve, set_open,
 };
-use hll_state::registers::small_registers;
+use hll_state::registers::{as_bytes, small_registers};
 use std::alloc::Global;
 
 /// Makes the state of an empty sketch. Its `lg_k` is open if `lg_k` is 0.
@@ -161,31 +162,33 @@ pub(crate) fn add_value(state: &mut [[u8; 4]], value: &[u8], size: &mut usize) -
 }
 
 /// Adds a raw coupon.
+// (not inlined, and it reads the header again: passed in memory, the header would cost more, also where the value is held)
 #[inline(never)]
 fn add_raw(state: &mut [[u8; 4]], raw: u32, size: &mut usize) -> u8
     ensures added { AddsToState (TakesValues state.old) (raw ∷ []) state.old state.new size.old size.new result }
     ensures widths { KeepsWidths state.old state.new }
     ensures lg_k_open { is_lg_k_open state.new ≡ is_lg_k_open state.old }
 {
-    if is_open(state) {
-        return Reason::Argument.number();
+    match open(state) {
+        Some(header) if !is_open(state) => add_with(state, header, raw, size),
+        _ => Reason::Argument.number(),
     }
-    if add_in_place(state, raw) {
-        return OK;
-    }
-    add_with_room(state, raw, size)
 }
 
-/// Adds a raw coupon if there is room for it, and writes the header.
-fn add_with_room(state: &mut [[u8; 4]], raw: u32, size: &mut usize) -> u8
+/// Adds a raw coupon to a state whose header was read.
+#[inline(always)]
+fn add_with(state: &mut [[u8; 4]], header: Header, raw: u32, size: &mut usize) -> u8
+    requires header { HasHeader state.old header }
     ensures added { AddsToState (Unit {0}) (raw ∷ []) state.old state.new size.old size.new result }
     ensures widths { KeepsWidths state.old state.new }
     ensures lg_k_open { is_lg_k_open state.new ≡ is_lg_k_open state.old }
 {
-    match begin(state, 1) {
-        Begun::NoState => Reason::Argument.number(),
-        Begun::NoRoom(len) => too_small(len, size),
-        Begun::Room(mut header) => {
+    if add_in_place(state, header, raw) {
+        return OK;
+    }
+    match begin_with(state, header, 1) {
+        Err(len) => too_small(len, size),
+        Ok(mut header) => {
             header.push_higher(&mut state[HEADER_LEN..], raw);
             close(state, header);
             OK
@@ -238,7 +241,7 @@ fn image_of(alloc: Global, state: &mut [[u8; 4]], width: u32) -> Result<Vec<u8>,
 /// Returns the image, at a width, of the sketch of a state that `resolve` has made ready to be read.
 ///
 /// Fails with `Register` if a register is above 63, or with `Memory`.
-pub(crate) fn image_of_held(
+fn image_of_held(
     alloc: Global,
     header: Header,
     body: &[[u8; 4]],
@@ -249,11 +252,32 @@ pub(crate) fn image_of_held(
     ensures ok { IfOk result (λ image. IsImageOf (FillsFields (record (sketch_in header body.now) { width = hll_type })) image.items) }
     ensures err { IfErr result (λ e. (e ≡ Memory) ⊎ ((e ≡ reasons.Register) × (IsLegal (sketch_in header body.now) → ⊥))) }
 {
+    if let Held::Registers(_) = header.held {
+        small_registers(body, header.lg_k)?;
+    }
+    image_of_legal(alloc, header, body, hll_type)
+}
+
+/// Does what `image_of_held` does, for a state of which no register is above 63.
+///
+/// Fails with `Memory`.
+pub(crate) fn image_of_legal(
+    alloc: Global,
+    header: Header,
+    body: &[[u8; 4]],
+    hll_type: HllType,
+) -> Result<Vec<u8>, Error>
+    requires within { IsWithin header (length body.now) }
+    requires resolved { IsResolved header body.now }
+    requires registers { HasLegalRegisters header body.now }
+    ensures ok { IfOk result (λ image. IsImageOf (FillsFields (record (sketch_in header body.now) { width = hll_type })) image.items) }
+    ensures err { IfErr result (λ e. e ≡ Memory) }
+{
+    let lg_k = header.lg_k;
     match header.held {
-        Held::Coupons(coupons) => image_of_coupons(alloc, header.lg_k, hll_type, coupons, body),
-        Held::Registers(estimate_state) => {
-            let registers = small_registers(body, header.lg_k)?;
-            image_of_registers(alloc, header.lg_k, hll_type, registers, estimate_state)
+        Held::Coupons(coupons) => image_of_coupons(alloc, lg_k, hll_type, coupons, body),
+        Held::Registers(state) => {
+            image_of_registers(alloc, lg_k, hll_type, as_bytes(body, lg_k), state)
         }
     }
 }

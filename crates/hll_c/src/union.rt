@@ -21,7 +21,7 @@ use crate::arguments::{lg_k_of_number, width_of};
 use crate::batch::are_ends;
 use crate::image::refused_at;
 use crate::several_images::{Batch, Images, Parts};
-use crate::state::image_of_held;
+use crate::state::image_of_legal;
 use hll_base::bounds::MAX_VALUE;
 use hll_base::error::{Error, Reason};
 use hll_base::hll_type::HllType;
@@ -137,6 +137,9 @@ impl GrowingUnion {
         ensures unchanged { IfOk result (λ did. did ≡ false → self.new ≡ self.old) }
         ensures err { IfErr result (IsRefusal image.now) }
     {
+        if !self.header.has_registers() {
+            return Ok(false);
+        }
         let Some(registers) = register_bytes(image) else {
             return Ok(self.max_with_few_exceptions(image));
         };
@@ -224,7 +227,7 @@ impl GrowingUnion {
         ensures err { IfErr result (λ e. e ≡ Memory) }
     {
         self.header.resolve(&mut self.elements);
-        image_of_held(alloc, self.header, &self.elements, hll_type)
+        image_of_legal(alloc, self.header, &self.elements, hll_type)
     }
 }
 

@@ -117,8 +117,8 @@ impl Coupon {
         Coupon::from_words(lo, hi)
     }
 
-    /// Returns the coupon with this code.
-    pub(crate) fn from_raw(raw: u32) -> Coupon
+    /// Returns the coupon of a raw coupon.
+    pub fn from_raw(raw: u32) -> Coupon
         ensures { result ≡ raw }
     {
         Coupon { raw }

@@ -1,13 +1,14 @@
 -- SPDX-License-Identifier: Apache-2.0
 -- Lemmas on bounds of bytes by lanes.
-use Rattle.std.proofs.Common.{◌≡◌, ℕ, zero, suc, ◌+◌, ◌*◌, ◌<◌, Bool, true, false, cond, List, [], ◌∷◌, length, get_or, take, drop, refl, sym, ap, ◌∙◌, arith}
+use Rattle.std.proofs.Common.{◌≡◌, ℕ, zero, suc, ◌+◌, ◌*◌, ◌<◌, Bool, true, false, cond, List, [], ◌∷◌, ◌++◌, T, length, get_or, take, drop, refl, sym, ap, ◌∙◌, arith}
 use Rattle.std.specs.Prelude.{◌&&◌, nat_le, nat_lt, max}
-use Rattle.std.specs.List.{list_all}
+use Rattle.std.specs.List.{list_all, range_with_len}
 use Rattle.std.specs.Simd.{first_chunks}
-use Rattle.std.specs.Simd.Lanes.{zip2, sel_l, top}
-use Rattle.std.proofs.lemmas.List.{take-append-drop}
+use Rattle.std.specs.Simd.Lanes.{zip2, sel_l, pick_l, all_below, top}
+use Rattle.std.proofs.lemmas.List.{take_all, length-drop, length-take-le, take-append-drop}
 use Rattle.std.proofs.lemmas.List.Folds.{list_all-append}
 use Rattle.std.proofs.lemmas.Bool.Decides.{nat_tests}
+use Rattle.std.proofs.lemmas.Simd.{pick_l_left, pick_l-range_with_len}
 use Rattle.hll_kernels.proofs.Blocks.{take_block}
 use mathlib.Core.List.{map}
 
@@ -31,12 +32,16 @@ greater_within x y bound = grind (arith, nat_tests)
 abbrev pub greater_lanes : List ℕ → List ℕ → List ℕ
 greater_lanes xs ys = sel_l (map (top 7) (zip2 (λ a b. cond (nat_lt a b) 255 0) xs ys)) ys xs
 
+-- a test that the greater of two numbers passes if both do
+module _ (p : ℕ → Bool) (both : (x y : ℕ) → p (cond (top 7 (cond (nat_lt x y) 255 0)) y x) ≡ (p x && p y)) where
+  lanes_pass : (xs ys : List ℕ) → length xs ≡ length ys → list_all p (greater_lanes xs ys) ≡ (list_all p xs && list_all p ys)
+  lanes_pass [] [] e = refl
+  lanes_pass [] (y ∷ ys) e = absurd (omega arith)
+  lanes_pass (x ∷ xs) [] e = absurd (omega arith)
+  lanes_pass (x ∷ xs) (y ∷ ys) e = (λ i. both x y i && lanes_pass xs ys (omega arith) i) ∙ swapped (p x) (p y) (list_all p xs) (list_all p ys)
+
 lanes_within : (bound : ℕ) (xs ys : List ℕ) → length xs ≡ length ys → are_within bound (greater_lanes xs ys) ≡ (are_within bound xs && are_within bound ys)
-lanes_within bound [] [] e = refl
-lanes_within bound [] (y ∷ ys) e = absurd (omega arith)
-lanes_within bound (x ∷ xs) [] e = absurd (omega arith)
-lanes_within bound (x ∷ xs) (y ∷ ys) e =
-    (λ i. greater_within x y bound i && lanes_within bound xs ys (omega arith) i) ∙ swapped (nat_le x bound) (nat_le y bound) (are_within bound xs) (are_within bound ys)
+lanes_within bound = lanes_pass (λ b. nat_le b bound) (λ x y. greater_within x y bound)
 
 pub length-greater_lanes : (n : ℕ) (xs ys : List ℕ) → length xs ≡ n → length ys ≡ n → length (greater_lanes xs ys) ≡ n
 length-greater_lanes n [] [] e f = e
@@ -45,28 +50,65 @@ length-greater_lanes n (x ∷ xs) [] e f = absurd (omega arith)
 length-greater_lanes zero (x ∷ xs) (y ∷ ys) e f = absurd (omega arith)
 length-greater_lanes (suc n) (x ∷ xs) (y ∷ ys) e f = omega (arith, length-greater_lanes n xs ys (omega arith) (omega arith))
 
--- the greater of the bytes of both halves of a block
-pub halves_within : (bound n : ℕ) (xs ys : List ℕ) → ys ≡ drop n xs → length (take n xs) ≡ length ys → are_within bound xs ≡ are_within bound (greater_lanes (take n xs) ys)
-halves_within bound n xs ys is long =
-    ap (are_within bound) (sym (take-append-drop n xs)) ∙ list_all-append (λ b. nat_le b bound) (take n xs) (drop n xs)
-    ∙ ap (λ zs. are_within bound (take n xs) && are_within bound zs) (sym is) ∙ sym (lanes_within bound (take n xs) ys long)
-
--- after lanes that say the same of a block
-pub lanes_of_block : (bound n k : ℕ) (xs : List ℕ) (blocks : List (List ℕ)) (i : ℕ) (d lanes here : List ℕ) → blocks ≡ first_chunks n k xs → i < k → length lanes ≡ length here →
-    are_within bound (take (i * n) xs) ≡ are_within bound lanes → are_within bound (get_or blocks i d) ≡ are_within bound here →
-    are_within bound (take ((i + 1) * n) xs) ≡ are_within bound (greater_lanes lanes here)
-lanes_of_block bound n k xs blocks i d lanes here are inside long so_far same =
-    ap (are_within bound) (take_block n k xs blocks i d are inside) ∙ list_all-append (λ b. nat_le b bound) (take (i * n) xs) (get_or blocks i d)
-    ∙ (λ j. so_far j && same j) ∙ sym (lanes_within bound lanes here long)
-
 -- after one more block
-pub block_within : (bound n k : ℕ) (xs : List ℕ) (blocks : List (List ℕ)) (i : ℕ) (d lanes : List ℕ) → blocks ≡ first_chunks n k xs → i < k → length lanes ≡ length (get_or blocks i d) →
-    are_within bound (take (i * n) xs) ≡ are_within bound lanes → are_within bound (take ((i + 1) * n) xs) ≡ are_within bound (greater_lanes lanes (get_or blocks i d))
-block_within bound n k xs blocks i d lanes are inside long so_far = lanes_of_block bound n k xs blocks i d lanes (get_or blocks i d) are inside long so_far refl
+module _ (bound n k : ℕ) (xs : List ℕ) (blocks : List (List ℕ)) (i : ℕ) (d : List ℕ) (are : blocks ≡ first_chunks n k xs) (inside : i < k) where
+  one_more : are_within bound (take ((i + 1) * n) xs) ≡ (are_within bound (take (i * n) xs) && are_within bound (get_or blocks i d))
+  one_more = ap (are_within bound) (take_block n k xs blocks i d are inside) ∙ list_all-append (λ b. nat_le b bound) (take (i * n) xs) (get_or blocks i d)
 
--- after the rest
-pub whole_within : (bound n : ℕ) (xs rest lanes : List ℕ) (a b : ℕ) → are_within bound (take n xs) ≡ are_within bound lanes → rest ≡ drop n xs →
-    are_within bound lanes ≡ nat_le a bound → are_within bound rest ≡ nat_le b bound → are_within bound xs ≡ nat_le (max a b) bound
-whole_within bound n xs rest lanes a b front is first second =
-    ap (are_within bound) (sym (take-append-drop n xs)) ∙ list_all-append (λ b. nat_le b bound) (take n xs) (drop n xs)
-    ∙ (λ i. (front ∙ first) i && (ap (are_within bound) (sym is) ∙ second) i) ∙ sym (max_within a b bound)
+  pub block_within : (lanes : List ℕ) → length lanes ≡ length (get_or blocks i d) →
+      are_within bound (take (i * n) xs) ≡ are_within bound lanes → are_within bound (take ((i + 1) * n) xs) ≡ are_within bound (greater_lanes lanes (get_or blocks i d))
+  block_within lanes long so_far = one_more ∙ ap (λ t. t && are_within bound (get_or blocks i d)) so_far ∙ sym (lanes_within bound lanes (get_or blocks i d) long)
+
+  pub block_max : (a b : ℕ) → are_within bound (take (i * n) xs) ≡ nat_le a bound → are_within bound (get_or blocks i d) ≡ nat_le b bound → are_within bound (take ((i + 1) * n) xs) ≡ nat_le (max a b) bound
+  block_max a b so_far here = one_more ∙ (λ j. so_far j && here j) ∙ sym (max_within a b bound)
+
+-- after all k blocks of n bytes and the rest
+pub whole_max : (bound n i k : ℕ) (xs rest : List ℕ) (a b : ℕ) → i ≡ k → rest ≡ drop (k * n) xs → are_within bound (take (i * n) xs) ≡ nat_le a bound → are_within bound rest ≡ nat_le b bound →
+    are_within bound xs ≡ nat_le (max a b) bound
+whole_max bound n i k xs rest a b e is first second =
+    ap (are_within bound) (sym (take-append-drop (i * n) xs)) ∙ list_all-append (λ b. nat_le b bound) (take (i * n) xs) (drop (i * n) xs)
+    ∙ (λ j. first j && (ap (are_within bound) (ap (λ m. drop (m * n) xs) e ∙ sym is) ∙ second) j) ∙ sym (max_within a b bound)
+
+-- ---- bytes below a bound
+
+-- whether all bytes are below a bound
+abbrev pub all_under : ℕ → List ℕ → Bool
+all_under bound xs = list_all (λ v. nat_lt v bound) xs
+
+greater_under : (x y bound : ℕ) → nat_lt (cond (top 7 (cond (nat_lt x y) 255 0)) y x) bound ≡ (nat_lt x bound && nat_lt y bound)
+greater_under x y bound = grind (arith, nat_tests)
+
+pub lanes_under : (bound : ℕ) (xs ys : List ℕ) → length xs ≡ length ys → all_under bound (greater_lanes xs ys) ≡ (all_under bound xs && all_under bound ys)
+lanes_under bound = lanes_pass (λ v. nat_lt v bound) (λ x y. greater_under x y bound)
+
+-- the greater of the lanes of both halves
+module _ (n : ℕ) (xs : List ℕ) (long : length xs ≡ n + n) (low : T (all_below (n + n) (range_with_len 0 n))) (high : T (all_below (n + n) (range_with_len n n))) where
+  abbrev first_half : List ℕ
+  first_half = pick_l 0 (xs ++ xs) (range_with_len 0 n)
+
+  abbrev second_half : List ℕ
+  second_half = pick_l 0 (xs ++ xs) (range_with_len n n)
+
+  abbrev pub greater_half : List ℕ
+  greater_half = greater_lanes first_half second_half
+
+  first : first_half ≡ take n xs
+  first = pick_l_left 0 xs xs (n + n) (range_with_len 0 n) long low ∙ pick_l-range_with_len 0 xs 0 n (omega (arith, long))
+
+  second : second_half ≡ drop n xs
+  second =
+      pick_l_left 0 xs xs (n + n) (range_with_len n n) long high ∙ pick_l-range_with_len 0 xs n n (omega (arith, long)) ∙ take_all n (drop n xs) (omega (arith, length-drop n xs, long))
+
+  length-first : length first_half ≡ n
+  length-first = ap length first ∙ length-take-le n xs (omega (arith, long))
+
+  length-second : length second_half ≡ n
+  length-second = omega (arith, ap length second, length-drop n xs, long)
+
+  pub length-greater_half : length greater_half ≡ n
+  length-greater_half = length-greater_lanes n first_half second_half length-first length-second
+
+  pub half_under : (bound : ℕ) → all_under bound xs ≡ all_under bound greater_half
+  half_under bound =
+      ap (all_under bound) (sym (take-append-drop n xs)) ∙ list_all-append (λ v. nat_lt v bound) (take n xs) (drop n xs)
+      ∙ (λ i. all_under bound (sym first i) && all_under bound (sym second i)) ∙ sym (lanes_under bound first_half second_half (length-first ∙ sym length-second))

@@ -14,3 +14,4 @@ pub mod SixBitLanes
 pub mod WeightParts
 pub mod Weights
 pub mod ZeroTests
+pub mod ZeroCounts

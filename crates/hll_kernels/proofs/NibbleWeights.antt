@@ -1,6 +1,6 @@
 -- SPDX-License-Identifier: Apache-2.0
 -- Lemmas on sums of weights of nibbles above a minimum.
-use Rattle.std.proofs.Common.{◌≡◌, ℕ, zero, suc, ◌+◌, ◌/◌, ◌%◌, ◌<◌, Bool, true, false, List, [], ◌∷◌, All, length, replicate, bit_and, refl, sym, ap, ◌∙◌, arith}
+use Rattle.std.proofs.Common.{◌≡◌, ℕ, zero, suc, ◌+◌, ◌/◌, ◌%◌, ◌<◌, Bool, true, false, List, [], ◌∷◌, All, length, replicate, bit_and, refl, sym, ◌∙◌, arith}
 use Rattle.std.specs.Prelude.{◌&&◌, nat_lt}
 use Rattle.std.specs.List.{list_all}
 use Rattle.std.specs.Simd.Lanes.{zip2}
@@ -44,10 +44,6 @@ list_all-nibble_values p (b ∷ B) =
     (λ i. p (zero-add (b % 16) i) && (p (zero-add (b / 16) i) && list_all-nibble_values p B i))
     ∙ swapped (p (b % 16)) (p (b / 16)) (list_all p (low_of B)) (list_all p (high_of B))
 
-and-false : (b : Bool) → (b && false) ≡ false
-and-false true = refl
-and-false false = refl
-
 module _ (B : List ℕ) where
   abbrev AreUnmarked : Type 0
   AreUnmarked = All (λ n. n < 15) (nibble_values 0 B)
@@ -55,14 +51,11 @@ module _ (B : List ℕ) where
   parts : AreUnmarked → (list_all (λ n. nat_lt n 15) (low_of B) && list_all (λ n. nat_lt n 15) (high_of B)) ≡ true
   parts all = sym (list_all-nibble_values (λ n. nat_lt n 15) B) ∙ list_all-from_AllPass (λ n. nat_lt n 15) (nibble_values 0 B) (λ k d l. lt-ltb _ 15 (all k d l))
 
-  pub marked_low : list_all (λ n. nat_lt n 15) (low_of B) ≡ false → AreUnmarked → false ≡ true
-  marked_low some all = sym (ap (λ b. b && list_all (λ n. nat_lt n 15) (high_of B)) some) ∙ parts all
+  pub marked : (list_all (λ n. nat_lt n 15) (low_of B) && list_all (λ n. nat_lt n 15) (high_of B)) ≡ false → AreUnmarked → false ≡ true
+  marked some all = sym some ∙ parts all
 
-  pub marked_high : list_all (λ n. nat_lt n 15) (high_of B) ≡ false → AreUnmarked → false ≡ true
-  marked_high some all = sym (ap (λ b. list_all (λ n. nat_lt n 15) (low_of B) && b) some ∙ and-false (list_all (λ n. nat_lt n 15) (low_of B))) ∙ parts all
-
-  pub unmarked : list_all (λ n. nat_lt n 15) (low_of B) ≡ true → list_all (λ n. nat_lt n 15) (high_of B) ≡ true → AreUnmarked
-  unmarked low high = All-below 15 (nibble_values 0 B) (list_all-nibble_values (λ n. nat_lt n 15) B ∙ (λ i. low i && high i))
+  pub unmarked : (list_all (λ n. nat_lt n 15) (low_of B) && list_all (λ n. nat_lt n 15) (high_of B)) ≡ true → AreUnmarked
+  unmarked none = All-below 15 (nibble_values 0 B) (list_all-nibble_values (λ n. nat_lt n 15) B ∙ none)
 
 -- ---- sums
 

@@ -4,7 +4,7 @@ use Rattle.std.proofs.Common.{◌≡◌, ℕ, ◌+◌, ◌*◌, ◌%◌, ◌^◌
 use Rattle.std.specs.Prelude.{◌&&◌, ◌≢◌, nat_le, not}
 use Rattle.std.specs.List.{list_all}
 use Rattle.std.specs.Simd.{first_chunks}
-use Rattle.std.specs.Simd.Lanes.{zip2, mask_l, sel_l, sum_l, top}
+use Rattle.std.specs.Simd.Lanes.{zip2, mask_l, sel_l, sum_l, top, Each1}
 use Rattle.std.specs.Int.RustNames.{count_ones}
 use Rattle.std.proofs.lemmas.List.{length-map, length-take, take-append-drop}
 use Rattle.std.proofs.lemmas.List.Sums.{sum_by-append, sum_by-cons, sum_by-take-drop, count_by-le-length}
@@ -39,27 +39,37 @@ pub zeros_by_mask : (n : ℕ) (xs : List ℕ) → length xs ≡ n → n ≤ 64 �
     count_ones (mask_l (map (top 7) (zip2 (λ a b. cond (a == b) 255 0) xs (replicate n 0))) % 2 ^ 64) ≡ count_by (λ x. x == 0) xs
 zeros_by_mask n xs e few = ap count_ones (bitmask_splat w8 (λ a b. a == b) xs n 0 e few) ∙ ones-mask_l (λ x. x == 0) xs
 
--- ---- zeros by lanes: 1 in each lane that is not 0
+-- ---- zeros by lanes: 1 in each lane that is 0
 
-abbrev pub nonzero_lanes : ℕ → List ℕ → List ℕ
-nonzero_lanes n xs = sel_l (map (top 7) (zip2 (λ a b. cond (nat_lt a b) 255 0) xs (replicate n 1))) xs (replicate n 1)
+abbrev pub zero_lanes : ℕ → List ℕ → List ℕ
+zero_lanes n xs = sel_l (map (top 7) (zip2 (λ a b. cond (a == b) 255 0) xs (replicate n 0))) (replicate n 1) (replicate n 0)
 
-one_lane : (x : ℕ) → cond (top 7 (cond (nat_lt x 1) 255 0)) x 1 + cond (x == 0) 1 0 ≡ 1
+one_lane : (x : ℕ) → 0 + cond (top 7 (cond (x == 0) 255 0)) 1 0 ≡ cond (x == 0) 1 0
 one_lane x = grind (arith, nat_tests)
 
-pub nonzeros_by_lanes : (n : ℕ) (xs : List ℕ) → length xs ≡ n → sum_l (nonzero_lanes n xs) + count_by (λ x. x == 0) xs ≡ n
-nonzeros_by_lanes zero [] e = refl
-nonzeros_by_lanes zero (x ∷ xs) e = absurd (omega arith)
-nonzeros_by_lanes (suc n) [] e = absurd (omega arith)
-nonzeros_by_lanes (suc n) (x ∷ xs) e =
+pub zeros_by_lanes : (n : ℕ) (xs : List ℕ) → length xs ≡ n → sum_l (zero_lanes n xs) ≡ count_by (λ x. x == 0) xs
+zeros_by_lanes zero [] e = refl
+zeros_by_lanes zero (x ∷ xs) e = absurd (omega arith)
+zeros_by_lanes (suc n) [] e = absurd (omega arith)
+zeros_by_lanes (suc n) (x ∷ xs) e =
     let counted : count_by (λ v. v == 0) (x ∷ xs) ≡ cond (x == 0) 1 0 + count_by (λ v. v == 0) xs = sum_by-cons (λ v. cond (v == 0) 1 0) x xs in
-    omega (arith, counted, one_lane x, nonzeros_by_lanes n xs (omega arith))
+    omega (arith, counted, one_lane x, zeros_by_lanes n xs (omega arith))
 
-pub length-nonzero_lanes : (n : ℕ) (xs : List ℕ) → length xs ≡ n → length (nonzero_lanes n xs) ≡ n
-length-nonzero_lanes zero [] e = refl
-length-nonzero_lanes zero (x ∷ xs) e = absurd (omega arith)
-length-nonzero_lanes (suc n) [] e = absurd (omega arith)
-length-nonzero_lanes (suc n) (x ∷ xs) e = omega (arith, length-nonzero_lanes n xs (omega arith))
+pub length-zero_lanes : (n : ℕ) (xs : List ℕ) → length xs ≡ n → length (zero_lanes n xs) ≡ n
+length-zero_lanes zero [] e = refl
+length-zero_lanes zero (x ∷ xs) e = absurd (omega arith)
+length-zero_lanes (suc n) [] e = absurd (omega arith)
+length-zero_lanes (suc n) (x ∷ xs) e = omega (arith, length-zero_lanes n xs (omega arith))
+
+at_most_one : (t : Bool) → cond t 1 0 ≤ 1
+at_most_one true = omega arith
+at_most_one false = omega arith
+
+pub zero_lanes-le : (n : ℕ) (xs : List ℕ) → length xs ≡ n → Each1 (λ v. v ≤ 1) (zero_lanes n xs)
+zero_lanes-le zero [] e = tt
+zero_lanes-le zero (x ∷ xs) e = absurd (omega arith)
+zero_lanes-le (suc n) [] e = absurd (omega arith)
+zero_lanes-le (suc n) (x ∷ xs) e = (at_most_one (top 7 (cond (x == 0) 255 0)), zero_lanes-le n xs (omega arith))
 
 -- ---- whether all pass a test
 

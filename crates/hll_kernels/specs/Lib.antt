@@ -3,3 +3,4 @@ pub mod Groups
 pub mod Lanes
 pub mod Packed
 pub mod WeightSums
+pub mod ZeroCounts

@@ -11,7 +11,7 @@ ghost use Rattle.hll_kernels.specs.Packed.{fields, field_bytes, group_bytes, zer
 ghost use Rattle.hll_kernels.specs.WeightSums.{AreSumsOf};
 
 use crate::kernels::{
-    RunningSums, WeightSums, all_zero, count_zeros, max_64, max_one, weight_sums, zero_lanes,
+    RunningSums, RunningZeros, WeightSums, all_zero, count_zeros, max_64, max_one, weight_sums,
 };
 use std::alloc::{AllocError, Allocator};
 use std::simd::prelude::*;
@@ -396,12 +396,27 @@ fn zero_fields(bytes: &[u8]) -> usize
     requires few { length bytes.now ≤ 3 * 2 ^ 19 }
     ensures { result ≡ zeros (fields bytes.now) }
 {
-    let (blocks, rest) = bytes.as_chunks::<48>();
+    let (parts, rest) = bytes.as_chunks::<6144>();
     let mut count = 0;
-    for block in blocks {
-        count += zero_lanes(fields_in(block)) as usize;
+    for part in parts {
+        count += zero_fields_in(part);
     }
-    count + zero_fields_one_by_one(rest)
+    count + zero_fields_in(rest)
+}
+
+/// Returns the number of registers that are 0 in the bytes of at most 2048 groups, sixteen groups at a time.
+fn zero_fields_in(bytes: &[u8]) -> usize
+    requires whole { length bytes.now % 3 ≡ 0 }
+    requires few { length bytes.now ≤ 6144 }
+    ensures count { result ≡ zeros (fields bytes.now) }
+    ensures bound { result ≤ 8192 }
+{
+    let (blocks, rest) = bytes.as_chunks::<48>();
+    let mut zeros = RunningZeros::new();
+    for block in blocks {
+        zeros.add(fields_in(block));
+    }
+    zeros.total() + zero_fields_one_by_one(rest)
 }
 
 /// Returns the number of registers that are 0 in at most 15 groups.
@@ -447,24 +462,44 @@ pub fn zeros_and_sums_in(groups: &[[u8; 3]]) -> (usize, WeightSums)
     zeros_and_field_sums(groups.as_flattened())
 }
 
-/// Returns the number of registers that are 0 in the bytes of groups, and the sums of the weights of the registers, sixteen groups
-/// at a time.
+/// Returns the number of registers that are 0 in the bytes of groups, and the sums of the weights of the registers.
 fn zeros_and_field_sums(bytes: &[u8]) -> (usize, WeightSums)
     requires whole { length bytes.now % 3 ≡ 0 }
     requires few { length bytes.now ≤ 3 * 2 ^ 19 }
     ensures zeros { result.0 ≡ zeros (fields bytes.now) }
     ensures sums { AreSumsOf result.1 (fields bytes.now) }
 {
-    let (blocks, rest) = bytes.as_chunks::<48>();
+    let (parts, rest) = bytes.as_chunks::<6144>();
     let mut count = 0;
+    let mut sums = WeightSums { low: 0, high: 0 };
+    for part in parts {
+        let (more, others) = zeros_and_field_sums_in(part);
+        count += more;
+        sums = sums.plus(others);
+    }
+    let (more, others) = zeros_and_field_sums_in(rest);
+    (count + more, sums.plus(others))
+}
+
+/// Returns the number of registers that are 0 in the bytes of at most 2048 groups, and the sums of the weights of the registers,
+/// sixteen groups at a time.
+fn zeros_and_field_sums_in(bytes: &[u8]) -> (usize, WeightSums)
+    requires whole { length bytes.now % 3 ≡ 0 }
+    requires few { length bytes.now ≤ 6144 }
+    ensures zeros { result.0 ≡ zeros (fields bytes.now) }
+    ensures bound { result.0 ≤ 8192 }
+    ensures sums { AreSumsOf result.1 (fields bytes.now) }
+{
+    let (blocks, rest) = bytes.as_chunks::<48>();
+    let mut zeros = RunningZeros::new();
     let mut sums = RunningSums::new();
     for block in blocks {
         let registers = fields_in(block);
-        count += zero_lanes(registers) as usize;
+        zeros.add(registers);
         sums.add(registers);
     }
     (
-        count + zero_fields_one_by_one(rest),
+        zeros.total() + zero_fields_one_by_one(rest),
         sums.total().plus(field_sums_one_by_one(rest)),
     )
 }

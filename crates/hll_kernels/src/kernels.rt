@@ -3,13 +3,14 @@
 //! None of them allocates.
 ghost use Rattle.std.specs.Prelude.{◌≡◌, ℕ, ◌+◌, ◌-◌, ◌*◌, ◌/◌, ◌%◌, ◌^◌, ◌<◌, ◌≤◌, ◌==◌, nat_le, nat_lt, not, List, [], ◌∷◌, ◌++◌, count_by, length, map, slice_index, slice_set, All};
 ghost use Rattle.std.specs.List.{list_all};
-ghost use Rattle.std.specs.Simd.Lanes.{mask_l, sum_l};
+ghost use Rattle.std.specs.Simd.Lanes.{mask_l, sum_l, Each1};
 ghost use Rattle.hll_base.specs.Join.{join};
 ghost use Rattle.hll_kernels.specs.Lanes.{max_at, window_weight, window_units, IsIndex};
 ghost use Rattle.hll_kernels.specs.Packed as packed;
 ghost use Rattle.hll_kernels.specs.Packed.{zeros};
 ghost use Rattle.hll_kernels.specs.Packed.{AreRegisters};
 ghost use Rattle.hll_kernels.specs.WeightSums.{AreSumsOf, AreRunningSums};
+ghost use Rattle.hll_kernels.specs.ZeroCounts.{AreRunningZeros};
 
 use std::simd::prelude::*;
 
@@ -84,50 +85,75 @@ pub fn count_zeros(bytes: &[u8]) -> usize
     ensures zeros { result ≡ zeros bytes.now }
     ensures bound { result ≤ length bytes.now }
 {
-    let (blocks, rest) = bytes.as_chunks::<128>();
+    let (parts, rest) = bytes.as_chunks::<8192>();
     let mut count = 0;
-    for block in blocks {
-        count += zeros_in(block);
+    for part in parts {
+        count += zeros_in(part);
     }
-    count + zeros_one_by_one(rest)
+    count + zeros_in(rest)
 }
 
-/// Returns the number of bytes of a block that are 0.
-// (128 minus a sum of lanes; masks would be counted one after the other)
-fn zeros_in(block: &[u8; 128]) -> usize
-    ensures { result ≡ zeros block.now }
+/// Returns the number of at most 8192 bytes that are 0.
+fn zeros_in(bytes: &[u8]) -> usize
+    requires { length bytes.now ≤ 8192 }
+    ensures zeros { result ≡ zeros bytes.now }
+    ensures bound { result ≤ 8192 }
 {
-    let first = nonzero_lanes(u8x64::from_slice(&block[..]));
-    let second = nonzero_lanes(u8x64::from_slice(&block[64..]));
-    usize::from(128 - sum_of_both(first, second))
+    let (blocks, rest) = bytes.as_chunks::<64>();
+    let mut zeros = RunningZeros::new();
+    for block in blocks {
+        zeros.add(u8x64::from_array(*block));
+    }
+    zeros.total() + zeros_one_by_one(rest)
 }
 
-/// Returns the number of lanes that are 0.
-#[inline(always)]
-pub(crate) fn zero_lanes(lanes: u8x64) -> u32
-    ensures count { result ≡ zeros lanes }
-    ensures bound { result ≤ 64 }
-{
-    64 - u32::from(nonzero_lanes(lanes).strict_reduce_sum())
+/// The number of values that are 0, of at most 8192 values that come in blocks of 64: a count for each place in a block.
+// (a sum of lanes takes longer than to count a block, so there is one for 128 blocks; a lane has room for 255)
+#[derive(Clone, Copy)]
+pub(crate) struct RunningZeros {
+    counts: u8x64,
 }
 
-/// Returns lanes of 1 for the lanes that are not 0, and of 0 for the others.
+impl RunningZeros {
+    /// Returns the counts of no values.
+    #[inline(always)]
+    pub(crate) fn new() -> RunningZeros
+        ensures { AreRunningZeros result [] }
+    {
+        RunningZeros {
+            counts: u8x64::splat(0),
+        }
+    }
+
+    /// Adds 64 values. There are at most 8192 in all.
+    #[inline(always)]
+    pub(crate) fn add(&mut self, values: u8x64)
+        requires { (R : List ℕ) × AreRunningZeros self.old R × (length R + 64 ≤ 8192) }
+        ensures { (R : List ℕ) → AreRunningZeros self.old R → AreRunningZeros self.new (R ++ values) }
+    {
+        self.counts = self.counts.strict_add(zero_lanes(values));
+    }
+
+    /// Returns the number of values that are 0.
+    #[inline(always)]
+    pub(crate) fn total(self) -> usize
+        requires { (R : List ℕ) × AreRunningZeros self R × (length R ≤ 8192) }
+        ensures { (R : List ℕ) → AreRunningZeros self R → result ≡ zeros R }
+    {
+        lane_sum(byte_sums(self.counts)) as usize
+    }
+}
+
+/// Returns lanes of 1 for the lanes that are 0, and of 0 for the others.
 #[inline(always)]
-fn nonzero_lanes(bytes: u8x64) -> u8x64
-    ensures count { sum_l result + zeros bytes ≡ 64 }
+fn zero_lanes(values: u8x64) -> u8x64
+    ensures count { sum_l result ≡ zeros values }
     ensures lanes { length result ≡ 64 }
+    ensures small { Each1 (λ n. n ≤ 1) result }
 {
-    bytes.simd_min(u8x64::splat(1))
-}
-
-/// Returns the sum of all lanes of both. It has to fit a byte.
-#[inline(always)]
-fn sum_of_both(first: u8x64, second: u8x64) -> u8
-    requires lanes { length first ≡ length second }
-    requires small { sum_l first + sum_l second < 256 }
-    ensures { result ≡ sum_l first + sum_l second }
-{
-    first.strict_add(second).strict_reduce_sum()
+    values
+        .simd_eq(u8x64::splat(0))
+        .select(u8x64::splat(1), u8x64::splat(0))
 }
 
 /// Returns the number of bytes that are 0, counted one after the other.
@@ -199,24 +225,35 @@ pub fn zeros_and_greatest(bytes: &[u8]) -> (usize, u8)
     ensures bound { result.0 ≤ length bytes.now }
     ensures greatest { (bound : ℕ) → list_all (λ b. nat_le b bound) bytes.now ≡ nat_le result.1 bound }
 {
-    let (blocks, rest) = bytes.as_chunks::<128>();
+    let (parts, rest) = bytes.as_chunks::<8192>();
     let mut count = 0;
-    let mut lanes = u8x64::splat(0);
-    for block in blocks {
-        count += zeros_in(block);
-        lanes = lanes.simd_max(greatest_in(block));
+    let mut greatest = 0u8;
+    for part in parts {
+        let (more, other) = zeros_and_greatest_in(part);
+        count += more;
+        greatest = greatest.max(other);
     }
-    let greatest = greatest_one_by_one(&lanes.to_array()).max(greatest_one_by_one(rest));
-    (count + zeros_one_by_one(rest), greatest)
+    let (more, other) = zeros_and_greatest_in(rest);
+    (count + more, greatest.max(other))
 }
 
-/// Returns the greater of each byte of the first half of a block and the byte at the same place in the second half.
-#[inline(always)]
-fn greatest_in(block: &[u8; 128]) -> u8x64
-    ensures greatest { (bound : ℕ) → list_all (λ b. nat_le b bound) block.now ≡ list_all (λ b. nat_le b bound) result }
-    ensures lanes { length result ≡ 64 }
+/// Returns the number of at most 8192 bytes that are 0, and the greatest byte, or 0 if there are none.
+fn zeros_and_greatest_in(bytes: &[u8]) -> (usize, u8)
+    requires { length bytes.now ≤ 8192 }
+    ensures zeros { result.0 ≡ zeros bytes.now }
+    ensures bound { result.0 ≤ 8192 }
+    ensures greatest { (bound : ℕ) → list_all (λ b. nat_le b bound) bytes.now ≡ nat_le result.1 bound }
 {
-    u8x64::from_slice(&block[..]).simd_max(u8x64::from_slice(&block[64..]))
+    let (blocks, rest) = bytes.as_chunks::<64>();
+    let mut zeros = RunningZeros::new();
+    let mut lanes = u8x64::splat(0);
+    for block in blocks {
+        let values = u8x64::from_array(*block);
+        zeros.add(values);
+        lanes = lanes.simd_max(values);
+    }
+    let greatest = greatest_one_by_one(&lanes.to_array()).max(greatest_one_by_one(rest));
+    (zeros.total() + zeros_one_by_one(rest), greatest)
 }
 
 /// Returns the greatest of bytes, compared one after the other.
@@ -235,10 +272,23 @@ fn greatest_one_by_one(bytes: &[u8]) -> u8
 pub fn are_below(block: &[u8; 64], bound: u8) -> bool
     ensures { result ≡ list_all (λ v. nat_lt v bound) block.now }
 {
-    u8x64::from_array(*block)
-        .simd_ge(u8x64::splat(bound))
+    greatest_of_fours(u8x64::from_array(*block))
+        .simd_ge(u8x16::splat(bound))
         .to_bitmask()
         == 0
+}
+
+/// Returns the greatest of each four lanes that are sixteen apart.
+// (sixteen lanes fit one register: a mask of 64 lanes takes some thirty instructions on 64-bit ARM)
+#[inline(always)]
+fn greatest_of_fours(lanes: u8x64) -> u8x16
+    ensures below { (bound : ℕ) → list_all (λ v. nat_lt v bound) lanes ≡ list_all (λ v. nat_lt v bound) result }
+    ensures lanes { length result ≡ 16 }
+{
+    let of_twos = lanes.extract::<0, 32>().simd_max(lanes.extract::<32, 32>());
+    of_twos
+        .extract::<0, 16>()
+        .simd_max(of_twos.extract::<16, 16>())
 }
 
 /// Returns whether all bytes are 0. Stops at the first block with another byte; allocates nothing.

@@ -1,7 +1,7 @@
 // SPDX-License-Identifier: Apache-2.0
 //! 4-bit registers: two in each byte, each the height of a register above a minimum. 15 marks an exception, a register
 //! that is kept elsewhere (docs/FORMAT.md, "Packed registers").
-ghost use Rattle.std.specs.Prelude.{◌≡◌, ℕ, ◌+◌, ◌-◌, ◌*◌, ◌/◌, ◌%◌, ◌^◌, ◌<◌, ◌≤◌, ◌==◌, ◌⊎◌, ◌↔◌, ◌&&◌, nat_le, if◌then◌else◌, [], ◌∷◌, ◌++◌, length, map, count_by, slice_set, All, IfOk, IfSome, IsSome};
+ghost use Rattle.std.specs.Prelude.{◌≡◌, ℕ, ◌+◌, ◌-◌, ◌*◌, ◌/◌, ◌%◌, ◌^◌, ◌<◌, ◌≤◌, ◌==◌, ◌⊎◌, ◌↔◌, ◌&&◌, nat_le, nat_lt, if◌then◌else◌, [], ◌∷◌, ◌++◌, length, map, count_by, slice_set, All, IfOk, IfSome, IsSome};
 ghost use Rattle.std.specs.List.{list_all};
 ghost use Rattle.std.specs.Simd.Lanes.{chunk, put_chunk, Each1};
 ghost use Rattle.hll_base.specs.Join.{join};
@@ -163,10 +163,17 @@ fn mark_nibbles_in(block: &[u8; 64]) -> u8
 fn is_unmarked(block: &[u8; 64]) -> bool
     ensures { result ≡ (mark_nibbles block.now == 0) }
 {
-    if !are_below(&low_nibbles(block), MARK) {
-        return false;
-    }
-    are_below(block, 16 * MARK)
+    are_below(&greater_nibbles(block), MARK)
+}
+
+/// Returns the greater of both nibbles of each byte.
+#[inline(always)]
+fn greater_nibbles(block: &[u8; 64]) -> [u8; 64]
+    ensures { (bound : ℕ) → list_all (λ n. nat_lt n bound) result ≡ (list_all (λ n. nat_lt n bound) (map (λ b. b % 16) block.now) && list_all (λ n. nat_lt n bound) (map (λ b. b / 16) block.now)) }
+{
+    let low = u8x64::from_array(low_nibbles(block));
+    let high = u8x64::from_array(high_nibbles(block));
+    low.simd_max(high).to_array()
 }
 
 /// Returns the number of nibbles of a block that are 15, counted byte by byte.
@@ -402,15 +409,12 @@ pub fn unmarked_sums(block: &[u8; 64], minimum: u8) -> Option<WeightSums>
     ensures unmarked { IsSome result ↔ All (λ n. n < 15) (nibble_values 0 block.now) }
     ensures sums { IfSome result (λ s. AreSumsOf s (nibble_values minimum block.now)) }
 {
-    let low = low_nibbles(block);
-    let high = high_nibbles(block);
-    if !are_below(&low, MARK) {
+    if !is_unmarked(block) {
         return None;
     }
-    if !are_below(&high, MARK) {
-        return None;
-    }
-    Some(shifted_sums(&low, minimum).plus(shifted_sums(&high, minimum)))
+    let low = shifted_sums(&low_nibbles(block), minimum);
+    let high = shifted_sums(&high_nibbles(block), minimum);
+    Some(low.plus(high))
 }
 
 /// Returns the low nibble of each byte.

@@ -94,7 +94,7 @@ impl<'a, A: Allocator> NibbleSlice<'a, A> {
         ensures agree { OnOk result ((s : ℕ) → s < 2 ^ lg_k → Agrees minimum (nibble_at nibbles.now s) (exception_in (unboxed exceptions) s)) }
         ensures err { IfErr result (λ e. (e ≡ Register) × (((s : ℕ) → s < 2 ^ lg_k → Agrees minimum (nibble_at nibbles.now s) (exception_in (unboxed exceptions) s)) → ⊥)) }
     {
-        let (zeros, marks) = counts_of(nibbles, later);
+        let (zeros, marks) = counts_of(nibbles, minimum, later);
         if !agree(nibbles, &exceptions, lg_k, minimum, marks) {
             return Err(Error::new(Reason::Register));
         }
@@ -268,17 +268,25 @@ fn zeros_or_count(zeros: Option<u32>, nibbles: &[u8]) -> u32
 }
 
 /// Returns the number of nibbles that are 0, if it is needed later, and the number of nibbles that are 15. One pass.
-fn counts_of(nibbles: &[u8], later: Use) -> (Option<u32>, u32)
+fn counts_of(nibbles: &[u8], minimum: u8, later: Use) -> (Option<u32>, u32)
     requires { length nibbles.now ≤ 2 ^ 20 }
     ensures zeros { IfSome result.0 (λ n. n ≡ zero_nibbles nibbles.now) }
     ensures marks { result.1 ≡ mark_nibbles nibbles.now }
 {
+    if !needs_zeros(minimum, later) {
+        return (None, count_mark_nibbles(nibbles));
+    }
+    let (zeros, marks) = count_zeros_and_marks(nibbles);
+    (Some(zeros), marks)
+}
+
+/// Returns whether the number of nibbles that are 0 is needed later. If the minimum is above 0, no register is 0, so an estimate
+/// doesn't need it.
+fn needs_zeros(minimum: u8, later: Use) -> bool {
     match later {
-        Use::Join => (None, count_mark_nibbles(nibbles)),
-        Use::Count => {
-            let (zeros, marks) = count_zeros_and_marks(nibbles);
-            (Some(zeros), marks)
-        }
+        Use::Join => false,
+        Use::Count => minimum == 0,
+        Use::Copy => true,
     }
 }
 

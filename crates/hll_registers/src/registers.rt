@@ -17,8 +17,10 @@ use hll_kernels::kernels::{WeightSums, weight_sums};
 pub enum Use {
     /// Merge them, or only check them: zeros are not counted.
     Join,
-    /// Copy them or estimate from them, which needs the number of zeros.
+    /// Estimate from them, which needs the number of registers that are 0.
     Count,
+    /// Write an image of them, which needs the number of registers that are 0, and for 4 bits the number of nibbles that are 0.
+    Copy,
 }
 
 /// 2^`lg_k` registers of 0 to 63, and their estimate state. No call allocates.

@@ -60,8 +60,7 @@ impl<'a, A: Allocator> Drop for BorrowedImage<'a, A> {
 
 impl<'a, A: Allocator + Clone> BorrowedImage<'a, A> {
     /// Reads an image of any stage and width. Bytes after the image are ignored. Up to 128 coupons of an updatable image are
-    /// copied into `room`. The pass that checks registers of 8 or 4 bits also counts what a
-    /// later `Use` needs.
+    /// copied into `room`. The pass that checks registers of 8 or 4 bits also counts what a later `Use` needs.
     ///
     /// Fails with the reason of the first check that the image fails, or else with `Memory`. Allocates only once all bytes that
     /// the image needs are there: a table for coupons, except for at most 128 or ascending ones in a compact image and for 1 to

@@ -18,6 +18,7 @@ use crate::read_image::read_sketch;
 use crate::sketch::HllSketch;
 use crate::updatable::updatable_coupons;
 use hll_base::error::Error;
+use hll_base::hll_type::HllType;
 use std::alloc::Allocator;
 
 impl<A: Allocator + Clone> HllSketch<A> {
@@ -90,7 +91,7 @@ fn check_registers<A: Allocator + Clone>(
     ensures err { IfErr result (IsRefusal bytes.now) }
     ensures plain { IfErr result (λ e. e ≡ Memory → HasPlainRegisters bytes.now → ⊥) }
 {
-    if few_exceptions(bytes).is_some() {
+    if header.hll_type == HllType::Hll4 && few_exceptions(bytes).is_some() {
         return Ok(());
     }
     with_registers!(alloc, bytes, header, _source => Ok(()))

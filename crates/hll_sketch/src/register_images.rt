@@ -56,7 +56,7 @@ pub fn register_image_at<'a, A: Allocator + Clone>(
             Ok(Some(source.image_parts(filled_state(&source))))
         }
         (Stage::Hll, HllType::Hll8, HllType::Hll8) => {
-            let source = eight_bit_registers(bytes, header, Use::Count)?;
+            let source = eight_bit_registers(bytes, header, Use::Copy)?;
             Ok(Some(source.image_parts(filled_state(&source))))
         }
         _ => Ok(None),
@@ -102,7 +102,7 @@ fn four_bits_at<'a, A: Allocator + Clone>(
     let Some(exceptions) = ascending_exceptions(bytes, header) else {
         return Ok(None);
     };
-    match four_bit_registers(alloc, bytes, header, Use::Count) {
+    match four_bit_registers(alloc, bytes, header, Use::Copy) {
         Ok(source) => Ok(source.image_parts(exceptions, filled_state(&source))),
         Err(e) if e.reason() != Reason::Memory => Err(e),
         Err(_) => Ok(None),
@@ -122,7 +122,7 @@ fn four_bits_with<'a, A: Allocator + Clone>(
     ensures { IfSome result (λ image. IsFilledImageWith raw_coupons.now bytes.now image) }
 {
     let exceptions = ascending_exceptions(bytes, header)?;
-    let Ok(source) = four_bit_registers(alloc, bytes, header, Use::Count) else {
+    let Ok(source) = four_bit_registers(alloc, bytes, header, Use::Copy) else {
         return None;
     };
     if hold_all(&source, raw_coupons) {
@@ -169,7 +169,7 @@ fn eight_bits_with<'a>(
     requires header { header ≡ header_of bytes.now }
     ensures { IfSome result (λ image. IsFilledImageWith raw_coupons.now bytes.now image) }
 {
-    let Ok(source) = eight_bit_registers(bytes, header, Use::Count) else {
+    let Ok(source) = eight_bit_registers(bytes, header, Use::Copy) else {
         return None;
     };
     if hold_all(&source, raw_coupons) {

@@ -23,7 +23,7 @@ use crate::stage::most_kept;
 use hll_arrays::estimate_state::EstimateState;
 use hll_arrays::register_store::RegisterStore;
 use hll_arrays::registers::{Registers, two_to};
-use hll_base::bounds::{MAX_LG_K, MIN_LG_K, SLOT_BITS};
+use hll_base::bounds::{MAX_LG_K, MIN_LG_K};
 use hll_base::error::{Error, Reason};
 use hll_base::hll_type::HllType;
 use hll_coupons::container::{Container, Insertion};
@@ -388,7 +388,7 @@ impl<A: Allocator + Clone> HllSketch<A> {
             if self.in_registers() {
                 return Ok(index);
             }
-            self.update_table(coupon_of(raw_coupons[index]))?;
+            self.update_table(Coupon::from_raw(raw_coupons[index]))?;
         }
         Ok(raw_coupons.len())
     }
@@ -466,13 +466,6 @@ impl<A: Allocator + Clone> HllSketch<A> {
     }
 }
 
-/// Returns the coupon of a raw coupon.
-fn coupon_of(raw_coupon: u32) -> Coupon
-    ensures { result ≡ raw_coupon }
-{
-    Coupon::pack(raw_coupon, (raw_coupon >> SLOT_BITS) as u8)
-}
-
 /// Adds the coupons of raw coupons in turn to registers.
 ///
 /// Fails with `Memory`; the coupons before that are then added.
@@ -487,7 +480,7 @@ fn put_each<S: RegisterStore<A>, A: Allocator>(
     ensures err { IfErr result (λ e. e ≡ Memory) }
 {
     for raw_coupon in raw_coupons {
-        put_one(store, coupon_of(*raw_coupon))?;
+        put_one(store, Coupon::from_raw(*raw_coupon))?;
     }
     Ok(())
 }

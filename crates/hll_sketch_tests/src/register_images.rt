@@ -200,7 +200,7 @@ fn descending_exceptions(rt: HostRuntime) -> Result<(), Fail> {
     Ok(())
 }
 
-/// Or a minimum below the least register.
+/// 4-bit registers whose minimum is below the least register have no parts either.
 #[test]
 fn low_minimum(rt: HostRuntime) -> Result<(), Fail> {
     let mut image = filled(rt.alloc(), 6, HllType::Hll4, 64, 13)?.serialize()?;

@@ -35,6 +35,7 @@ impl Header {
     /// the result is `OtherLgK`. An empty state takes the sketch's `lg_k` first. An empty sketch changes nothing in a state
     /// that is not empty; without a bound, an empty state takes its `lg_k` if that is greater. If there is not enough room, the
     /// sketch of the state is unchanged.
+    #[inline(always)]
     pub fn join<A: Allocator>(
         &mut self,
         body: &mut [[u8; 4]],

@@ -1,6 +1,6 @@
 // SPDX-License-Identifier: Apache-2.0
 //! States in caller-owned memory: reading and writing their headers, and making room for more coupons.
-ghost use Rattle.std.specs.Prelude.{◌≡◌, ℕ, ◌+◌, ◌-◌, ◌≤◌, true, false, [], ◌∷◌, length, drop, Some, IfSome, IfNone};
+ghost use Rattle.std.specs.Prelude.{◌≡◌, ℕ, ◌+◌, ◌-◌, ◌≤◌, true, false, [], ◌∷◌, length, drop, Some, IfSome, IfNone, IfOk, IfErr};
 ghost use Rattle.hll_sketch.specs.Laws.{add_in_turn};
 ghost use Rattle.hll_sketch.specs.Value.{IsLgK};
 ghost use Rattle.hll_state.specs.Counter.{sketch_in, IsResolved};
@@ -9,7 +9,7 @@ ghost use Rattle.hll_state.specs.Header as headers;
 ghost use Rattle.hll_state.specs.Header.{header_of, IsWithin, HasRoom, HasShortTail};
 ghost use Rattle.hll_state.specs.Memory as spec;
 ghost use Rattle.hll_state.specs.declared.header.Header.{Header};
-ghost use Rattle.hll_state.specs.Memory.{HasHeader, IsState, IsStateOf, OfState, KeepsWidths, IsOnlyRead, IsSettled, IsBegun};
+ghost use Rattle.hll_state.specs.Memory.{HasHeader, IsState, IsStateOf, OfState, KeepsWidths, IsOnlyRead, IsSettled, IsBegun, IsReady, LacksRoom};
 
 use crate::elements::get;
 use crate::header::{HEADER_LEN, Header, Held, elements_for};
@@ -96,18 +96,17 @@ pub fn has_raised(elements: &[[u8; 4]], raw: u32) -> bool
     }
 }
 
-/// Adds a raw coupon to a state if its header stays as it is: if it has registers with the cleared estimate state. Returns whether
-/// it has; if not, nothing changed.
-pub fn add_in_place(elements: &mut [[u8; 4]], raw: u32) -> bool
+/// Adds a raw coupon to a state, whose header was read, if the header stays as it is: if it has registers with the cleared
+/// estimate state. Returns whether it has; if not, nothing changed.
+#[inline(always)]
+pub fn add_in_place(elements: &mut [[u8; 4]], header: Header, raw: u32) -> bool
+    requires header { HasHeader elements.old header }
     ensures added { result ≡ true → OfState elements.old (λ x. IsStateOf elements.new (add_in_turn x (raw ∷ []))) }
     ensures widths { KeepsWidths elements.old elements.new }
     ensures lg_k_open { spec.is_open elements.new ≡ spec.is_open elements.old }
     ensures none { result ≡ false → elements.new ≡ elements.old }
 {
-    match open(elements) {
-        Some(header) => header.push_in_place(&mut elements[HEADER_LEN..], raw),
-        None => false,
-    }
+    header.push_in_place(&mut elements[HEADER_LEN..], raw)
 }
 
 /// The result of `begin`.
@@ -126,15 +125,32 @@ pub enum Begun {
 pub fn begin(elements: &mut [[u8; 4]], count: usize) -> Begun
     ensures { IsBegun count elements.old elements.new result }
 {
-    let Some(mut header) = open(elements) else {
+    let Some(header) = open(elements) else {
         return Begun::NoState;
     };
-    let has_room = header.make_room(&mut elements[HEADER_LEN..], count);
-    if has_room {
-        return Begun::Room(header);
+    match begin_with(elements, header, count) {
+        Ok(header) => Begun::Room(header),
+        Err(len) => Begun::NoRoom(len),
+    }
+}
+
+/// Checks whether a state, whose header was read, has room for `count` more coupons, as `begin` does. Returns the header that
+/// describes the elements afterwards, or a number of elements that is enough.
+#[inline(always)]
+pub fn begin_with(
+    elements: &mut [[u8; 4]],
+    mut header: Header,
+    count: usize,
+) -> Result<Header, usize>
+    requires header { HasHeader elements.old header }
+    ensures ok { IfOk result (IsReady count elements.old elements.new) }
+    ensures err { IfErr result (LacksRoom count elements.old elements.new) }
+{
+    if header.make_room(&mut elements[HEADER_LEN..], count) {
+        return Ok(header);
     }
     close(elements, header);
-    Begun::NoRoom(header.len_for(count))
+    Err(header.len_for(count))
 }
 
 /// Makes the sketch of a state ready to be read (see `Header::resolve`), and returns its header. Returns `None` if the elements

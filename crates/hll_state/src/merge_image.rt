@@ -39,7 +39,7 @@ impl Header {
             BorrowedImage::Table(sketch) => self.merge_sketch(body, sketch),
             BorrowedImage::Nibbles(registers) => self.merge_registers(body, registers),
             BorrowedImage::Groups(registers) => self.merge_registers(body, registers),
-            BorrowedImage::Bytes(registers) => self.merge_registers(body, registers),
+            BorrowedImage::Bytes(registers) => self.merge_bytes(body, registers),
         }
     }
 

@@ -17,9 +17,12 @@ ghost use Rattle.hll_state.specs.Registers.{values};
 ghost use Rattle.hll_state.specs.declared.header.Held.TheVariants.{Registers};
 
 use crate::header::{Header, Held};
-use crate::registers::{fold, max_with, max_with_bytes, max_with_few_exceptions, promote};
+use crate::registers::{
+    fold, max_with, max_with_bytes, max_with_few_exceptions, promote, write_all,
+};
 use hll_arrays::few_exceptions::FewExceptions;
 use hll_registers::estimate_state::EstimateState;
+use hll_registers::register_slice::RegisterSlice;
 use hll_registers::registers::{Registers, two_to};
 
 impl Header {
@@ -48,6 +51,27 @@ impl Header {
         max_with(&mut body[..two_to(lg_k - 2)], lg_k, src);
         self.lg_k = lg_k;
         self.held = Held::Registers(state_after_merge(is_empty, bound, src));
+        true
+    }
+
+    /// Merges 8-bit registers as `merge_registers` does. An empty state of their `lg_k` copies them.
+    pub fn merge_bytes(&mut self, body: &mut [[u8; 4]], src: &RegisterSlice<'_>) -> bool
+        requires { IsWithin self.old (length body.old) }
+        ensures within { IsWithin self.new (length body.old) }
+        ensures merged { let x = src.now in
+            HasSomeRegister (sketch_in self.old body.old) → result ≡ true → sketch_in self.new body.new ≡ merging.merge_registers self.old.lg_k (sketch_in self.old body.old) x.lg_k x.registers x.state }
+        ensures same { result ≡ false → sketch_in self.new body.new ≡ sketch_in self.old body.old }
+        ensures widths { self.new.widths ≡ self.old.widths }
+        ensures none { let x = src.now in
+            result ≡ false → 2 ^ (min self.old.lg_k x.lg_k - 2) + used_in self.old.held ≤ length body.old → ⊥ }
+        ensures short { result ≡ false → HasShortTail self.new.held }
+    {
+        let len = two_to(self.lg_k - 2);
+        if !self.is_empty() || self.lg_k != src.lg_k() || body.len() < len {
+            return self.merge_registers(body, src);
+        }
+        write_all(&mut body[..len], src.values());
+        self.held = Held::Registers(src.estimate_state());
         true
     }
 

@@ -518,7 +518,7 @@ fn max_few(elements: &mut [[u8; 4]], others: &[[u8; 4]])
 
 /// Writes all registers.
 #[inline(always)]
-fn write_all(elements: &mut [[u8; 4]], registers: &[u8])
+pub(crate) fn write_all(elements: &mut [[u8; 4]], registers: &[u8])
     requires { length registers.now ≡ 4 * length elements.old }
     ensures { values elements.new ≡ registers.now }
 {

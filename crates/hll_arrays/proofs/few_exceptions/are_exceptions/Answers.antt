@@ -23,8 +23,8 @@ loop-index-preserved c =
     let order : List ℕ = raw_coupons c.loop-index.index E in
     let IsMarked : ℕ → Type 0 = λ e. Agrees c.args.minimum (nibble_at c.args.nibbles.now (slot_of e % 2 ^ k)) (Some (value_of e)) in
     let more : raw_coupons (c.loop-index.index + 1) E ≡ order ++ w ∷ [] = coupons-more true c.loop-index.index w E c.loop-index.cursor inv.rest word.1 (λ _. refl) in
-    let none : entry_at k order (slot_of w % 2 ^ k) ≡ None = subst (λ (e : ℕ). entry_at k order (slot_of e % 2 ^ k) ≡ None) c.coupon_of-entry.ensures (c.is_new.ensures c.if-not-is_new.false) in
-    let mark : IsMarked w = subst IsMarked c.coupon_of-entry.ensures (c.is_marked.ensures c.if-not-is_marked.false) in
+    let none : entry_at k order (slot_of w % 2 ^ k) ≡ None = subst (λ (e : ℕ). entry_at k order (slot_of e % 2 ^ k) ≡ None) c.from_raw-entry.ensures (c.is_new.ensures c.if-not-is_new.false) in
+    let mark : IsMarked w = subst IsMarked c.from_raw-entry.ensures (c.is_marked.ensures c.if-not-is_marked.false) in
     let valued : 1 ≤ value_of w = omega (arith, mark.1) in
     record {
       rest = rest-more true c.loop-index.index w E c.loop-index.cursor inv.rest word.1 c.read_u32_le.new.self word.2;

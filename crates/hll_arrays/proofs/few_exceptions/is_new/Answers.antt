@@ -17,7 +17,7 @@ loop-preserved c =
     let s : ℕ = slot_of c.args.entry % 2 ^ k in
     let more : raw_coupons (c.loop.counter + 1) E ≡ raw_coupons c.loop.counter E ++ w ∷ [] = coupons-more true c.loop.counter w E c.loop.cursor inv.rest word.1 (λ _. refl) in
     let own : c.slot.result % c.two_to.result ≡ s = λ i. c.slot.ensures.slot i % c.two_to.ensures i in
-    let here : c.slot-in-loop.result % c.two_to-in-loop.result ≡ slot_of w % 2 ^ k = λ i. (c.slot-in-loop.ensures.slot ∙ ap slot_of c.coupon_of.ensures) i % c.two_to-in-loop.ensures i in
+    let here : c.slot-in-loop.result % c.two_to-in-loop.result ≡ slot_of w % 2 ^ k = λ i. (c.slot-in-loop.ensures.slot ∙ ap slot_of c.from_raw.ensures) i % c.two_to-in-loop.ensures i in
     let other : slot_of w % 2 ^ k ≢ s = λ same. c.if-slot-two_to.false (here ∙ same ∙ sym own) in
     record {
       rest = rest-more true c.loop.counter w E c.loop.cursor inv.rest word.1 c.read_u32_le.new.self word.2;

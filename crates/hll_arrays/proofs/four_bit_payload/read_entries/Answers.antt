@@ -30,7 +30,7 @@ loop-preserved-then-not-frame g c =
     let inv = c.loop.invariant in
     let word = c.in_ok-read_u32_le.ensures.ok in
     let w : ℕ = c.in_ok-read_u32_le.field-0 in
-    let empty : w ≡ 0 = sym c.coupon_of-entry.ensures ∙ c.is_empty.ensures.0 c.if-is_empty.true in
+    let empty : w ≡ 0 = sym c.from_raw-entry.ensures ∙ c.is_empty.ensures.0 c.if-is_empty.true in
     let same : coupons_at c.args.frame.now.compact (c.loop.counter + 1) c.args.frame.now.entries.now ≡ coupons_at c.args.frame.now.compact c.loop.counter c.args.frame.now.entries.now =
     coupons-same c.args.frame.now.compact c.loop.counter w c.args.frame.now.entries.now c.loop.cursor inv.rest word.1 c.if-not-frame.true empty in
     record {
@@ -52,7 +52,7 @@ returns-in_err-put_entry-clause-err g c =
     let all : List ℕ = coupons_at c.args.frame.now.compact c.args.frame.now.buckets c.args.frame.now.entries.now in
     let filled : w ≡ 0 → c.args.frame.now.compact ≡ true = λ z. elim c.else-is_empty.branch [
       | else-is_empty-via-then-is_empty+else-not-frame v ↦ v.if-not-frame.false
-      | else-is_empty-via-else-is_empty v ↦ absurd (true≢false (sym (c.is_empty.ensures.1 (c.coupon_of-entry.ensures ∙ z)) ∙ v.if-is_empty.false))
+      | else-is_empty-via-else-is_empty v ↦ absurd (true≢false (sym (c.is_empty.ensures.1 (c.from_raw-entry.ensures ∙ z)) ∙ v.if-is_empty.false))
     ] in
     let parts = coupons-all c.args.frame.now.compact c.loop.counter w c.args.frame.now.entries.now c.loop.cursor inv.rest word.1 c.args.frame.now.buckets c.loop-test.true filled in
     let P : Reason → Type 0 = λ e. (e ≡ Memory) ⊎ (((e ≡ Coupon) × (AreEntries k all → ⊥)) ⊎ ((e ≡ Count) × AreEntries k all × (length all ≢ c.args.frame.now.preamble.exception_count))) in
@@ -61,8 +61,8 @@ returns-in_err-put_entry-clause-err g c =
       | inl memory ↦ inl memory
       | inr fault ↦
           let bad : (value_of w ≡ 0) ⊎ (entry_at k (coupons_at c.args.frame.now.compact c.loop.counter c.args.frame.now.entries.now) (slot_of w % 2 ^ k) ≢ None) =
-          subst (λ (e : ℕ). (value_of e ≡ 0) ⊎ (entry_at k (coupons_at c.args.frame.now.compact c.loop.counter c.args.frame.now.entries.now) (slot_of e % 2 ^ k) ≢ None)) c.coupon_of-entry.ensures
-          (elim fault.1 [ inl z ↦ inl z | inr some ↦ inr (λ none. some (inv.values (slot_of c.coupon_of-entry.result % 2 ^ k) ∙ none)) ]) in
+          subst (λ (e : ℕ). (value_of e ≡ 0) ⊎ (entry_at k (coupons_at c.args.frame.now.compact c.loop.counter c.args.frame.now.entries.now) (slot_of e % 2 ^ k) ≢ None)) c.from_raw-entry.ensures
+          (elim fault.1 [ inl z ↦ inl z | inr some ↦ inr (λ none. some (inv.values (slot_of c.from_raw-entry.result % 2 ^ k) ∙ none)) ]) in
           inr (inl (fault.0, no_entry k (coupons_at c.args.frame.now.compact c.loop.counter c.args.frame.now.entries.now) parts.0 all w parts.1 bad))
     ])
 
@@ -75,13 +75,13 @@ loop-preserved g c =
     let order : List ℕ = coupons_at c.args.frame.now.compact c.loop.counter c.args.frame.now.entries.now in
     let filled : w ≡ 0 → c.args.frame.now.compact ≡ true = λ z. elim c.else-is_empty.branch [
       | else-is_empty-via-then-is_empty+else-not-frame v ↦ v.if-not-frame.false
-      | else-is_empty-via-else-is_empty v ↦ absurd (true≢false (sym (c.is_empty.ensures.1 (c.coupon_of-entry.ensures ∙ z)) ∙ v.if-is_empty.false))
+      | else-is_empty-via-else-is_empty v ↦ absurd (true≢false (sym (c.is_empty.ensures.1 (c.from_raw-entry.ensures ∙ z)) ∙ v.if-is_empty.false))
     ] in
     let more : coupons_at c.args.frame.now.compact (c.loop.counter + 1) c.args.frame.now.entries.now ≡ order ++ w ∷ [] =
     coupons-more c.args.frame.now.compact c.loop.counter w c.args.frame.now.entries.now c.loop.cursor inv.rest word.1 filled in
     let put = c.in_ok-put_entry.ensures in
-    let same : c.coupon_of-entry.result ≡ w = c.coupon_of-entry.ensures in
-    let none : entry_at k order (slot_of w % 2 ^ k) ≡ None = subst (λ (e : ℕ). entry_at k order (slot_of e % 2 ^ k) ≡ None) same (sym (inv.values (slot_of c.coupon_of-entry.result % 2 ^ k)) ∙ put.new) in
+    let same : c.from_raw-entry.result ≡ w = c.from_raw-entry.ensures in
+    let none : entry_at k order (slot_of w % 2 ^ k) ≡ None = subst (λ (e : ℕ). entry_at k order (slot_of e % 2 ^ k) ≡ None) same (sym (inv.values (slot_of c.from_raw-entry.result % 2 ^ k)) ∙ put.new) in
     let valued : 1 ≤ value_of w = subst (λ (e : ℕ). 1 ≤ value_of e) same put.valued in
     record {
       rest = rest-more c.args.frame.now.compact c.loop.counter w c.args.frame.now.entries.now c.loop.cursor inv.rest word.1 c.read_u32_le.new.self word.2;

@@ -1,29 +1,23 @@
 -- SPDX-License-Identifier: Apache-2.0
-use Rattle.std.proofs.Common.{All, ◌≡◌, ◌≤◌, ◌<◌, ◌*◌, ◌/◌, ◌++◌, ℕ, List, [], length, get_or, take, sym, ap, subst, ◌∙◌, arith}
+use Rattle.std.proofs.Common.{All, ◌≡◌, ◌≤◌, ◌<◌, ◌*◌, ◌/◌, ◌++◌, ℕ, List, length, take, sym, ap, subst, ◌∙◌, arith}
 use Rattle.std.proofs.lemmas.List.Elements.{All-from_get_or}
 use Rattle.hll_kernels.specs.Packed.{fields}
 use Rattle.hll_kernels.specs.WeightSums.{AreSumsOf, AreRunningSums}
-use Rattle.hll_kernels.proofs.Blocks.{length-block, All-block}
-use Rattle.hll_kernels.proofs.SixBitLanes.{length-fields-le, small-fields}
-use Rattle.hll_kernels.proofs.FieldBlocks.{one_more, all, size}
+use Rattle.hll_kernels.proofs.SixBitLanes.{length-fields-le}
+use Rattle.hll_kernels.proofs.FieldBlocks.{one_more, all, size_within, size_before, small_block}
 use Rattle.hll_kernels.proofs.WeightParts.{AreSumsOf-append, AreSumsOf-fits}
 use Rattle.hll_kernels.proofs.groups.field_sums.Goals as goal
 
 pub add-requires-clause-few : goal.add-requires-clause-few
 add-requires-clause-few c =
-    let i : ℕ = c.loop-block.block-index in
-    let inside : i < length c.args.bytes.now / 48 = omega (arith, c.loop-block-test.true, c.as_chunks.ensures.front_len) in
-    (fields (take (i * 48) c.args.bytes.now), c.loop-block.invariant, omega (arith, size i c.args.bytes.now (omega (arith, inside)), inside, c.requires.few))
+    let few = size_before c.loop-block.block-index c.args.bytes.now (omega (arith, c.loop-block-test.true, c.as_chunks.ensures.front_len)) in
+    (fields (take (c.loop-block.block-index * 48) c.args.bytes.now), c.loop-block.invariant, omega (arith, few, c.requires.few))
 
 pub add-requires-clause-small : goal.add-requires-clause-small
 add-requires-clause-small c =
-    let i : ℕ = c.loop-block.block-index in
     let B : List ℕ = c.args.bytes.now in
-    let F : List (List ℕ) = c.as_chunks.result.0.now in
-    let inside : i < length B / 48 = omega (arith, c.loop-block-test.true, c.as_chunks.ensures.front_len) in
-    subst (All (λ v. v ≤ 63)) (sym c.fields_in.ensures)
-    (small-fields 16 (get_or F i []) (length-block 48 (length B / 48) B F i [] c.as_chunks.ensures.front inside (omega arith))
-    (All-block 48 (length B / 48) B F i [] c.as_chunks.ensures.front inside (λ b. b < 256) (All-from_get_or (λ b. b < 256) B 0 (λ j h. (c.type_inv.bytes j).fits))))
+    let inside : c.loop-block.block-index < length B / 48 = omega (arith, c.loop-block-test.true, c.as_chunks.ensures.front_len) in
+    subst (All (λ v. v ≤ 63)) (sym c.fields_in.ensures) (small_block c.loop-block.block-index B _ c.as_chunks.ensures.front inside (All-from_get_or (λ b. b < 256) B 0 (λ j h. (c.type_inv.bytes j).fits)))
 
 pub loop-block-preserved : goal.loop-block-preserved
 loop-block-preserved c =
@@ -32,11 +26,9 @@ loop-block-preserved c =
     (c.add.ensures _ c.loop-block.invariant)
 
 pub total-requires : goal.total-requires
-total-requires c = (
-  fields (take (c.loop-block.block-index * 48) c.args.bytes.now),
-  c.loop-block.invariant,
-  omega (arith, size c.loop-block.block-index c.args.bytes.now (omega (arith, c.loop-block.auto.block-index-end, c.as_chunks.ensures.front_len)), c.loop-block.auto.block-index-end, c.as_chunks.ensures.front_len, c.requires.few),
-)
+total-requires c =
+    let few = size_within c.loop-block.block-index c.args.bytes.now (omega (arith, c.loop-block.auto.block-index-end, c.as_chunks.ensures.front_len)) in
+    (fields (take (c.loop-block.block-index * 48) c.args.bytes.now), c.loop-block.invariant, omega (arith, few, c.requires.few))
 
 pub plus-requires : goal.plus-requires
 plus-requires c =

@@ -1,13 +1,12 @@
 -- SPDX-License-Identifier: Apache-2.0
-use Rattle.std.proofs.Common.{arith, w8}
-use Rattle.std.proofs.lemmas.Simd.{sum_fits, fold-sum}
+use Rattle.hll_kernels.proofs.ZeroTests.{zeros_by_lanes, length-zero_lanes, zero_lanes-le}
 use Rattle.hll_kernels.proofs.kernels.zero_lanes.Goals as goal
 
-pub overflow_add-nonzero_lanes : goal.overflow_add-nonzero_lanes
-overflow_add-nonzero_lanes c = sum_fits w8 0 _ (omega (arith, c.nonzero_lanes.ensures.count))
-
-pub overflow_sub-result : goal.overflow_sub-result
-overflow_sub-result c = omega (arith, fold-sum 0 c.nonzero_lanes.result, c.nonzero_lanes.ensures.count, c.from.ensures)
-
 pub returns-clause-count : goal.returns-clause-count
-returns-clause-count c = omega (arith, fold-sum 0 c.nonzero_lanes.result, c.nonzero_lanes.ensures.count, c.from.ensures)
+returns-clause-count c = zeros_by_lanes 64 c.args.values c.fits-values.0
+
+pub returns-clause-lanes : goal.returns-clause-lanes
+returns-clause-lanes c = length-zero_lanes 64 c.args.values c.fits-values.0
+
+pub returns-clause-small : goal.returns-clause-small
+returns-clause-small c = zero_lanes-le 64 c.args.values c.fits-values.0

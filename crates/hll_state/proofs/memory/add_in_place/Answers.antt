@@ -13,21 +13,21 @@ use Rattle.hll_state.proofs.memory.add_in_place.Goals as goal
 after : (e body : List (List ℕ)) (h : Header) → HasHeader e h → length body ≡ length (drop 10 e) → HasHeader (put_mid 10 (length e - 10) e body) h
 after e body h has l = written_header e body h has (l ∙ length-drop 10 e)
 
-pub returns-in-Some-clause-added : goal.returns-in-Some-clause-added
-returns-in-Some-clause-added c done =
+pub returns-clause-added : goal.returns-clause-added
+returns-clause-added c done =
     let e : List (List ℕ) = c.args.elements.now in
-    let h : Header = c.in-Some.header in
+    let h : Header = c.args.header in
     let body : List (List ℕ) = c.push_in_place.new.body in
-    let has : HasHeader e h = c.in-Some.ensures.some in
+    let has : HasHeader e h = c.requires.header in
     let now : HasHeader (put_mid 10 (length e - 10) e body) h = after e body h has (c.push_in_place.auto.body ∙ ap length (rest_borrowed e)) in
     let is : sketch_in h (drop 10 (put_mid 10 (length e - 10) e body)) ≡ add_in_turn (sketch_in h (drop 10 e)) (c.args.raw ∷ []) =
     ap (sketch_in h) (rest_written e body has.there) ∙ c.push_in_place.ensures.added done ∙ ap (λ xs. add_in_turn (sketch_in h xs) (c.args.raw ∷ [])) (rest_borrowed e) in
     record { sketch = sketch_in h (drop 10 e); was = means e h has; is = record { state = record { header = h; has = now }; is = sym is } }
 
-pub returns-in-Some-clause-widths : goal.returns-in-Some-clause-widths
-returns-in-Some-clause-widths c =
+pub returns-clause-widths : goal.returns-clause-widths
+returns-clause-widths c =
     let e : List (List ℕ) = c.args.elements.now in
-    let h : Header = c.in-Some.header in
+    let h : Header = c.args.header in
     let body : List (List ℕ) = c.push_in_place.new.body in
-    let has : HasHeader e h = c.in-Some.ensures.some in
+    let has : HasHeader e h = c.requires.header in
     keeps e (put_mid 10 (length e - 10) e body) h h has (after e body h has (c.push_in_place.auto.body ∙ ap length (rest_borrowed e))) refl

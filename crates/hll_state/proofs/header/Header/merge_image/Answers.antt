@@ -65,9 +65,9 @@ pub returns-in-Bytes-clause-merged : goal.returns-in-Bytes-clause-merged
 returns-in-Bytes-clause-merged g c = λ some t.
     let s : Sketch = sketch_in c.args.self.now c.args.body.now in
     let is = ap sketch_of_borrowed (sym c.in-Bytes.is) in
-    merged_as c.args.self.now.lg_k s _ _ (sketch_of_borrowed c.args.image.now) is c.requires.some (c.merge_registers-in-Bytes.ensures.merged some t)
+    merged_as c.args.self.now.lg_k s _ _ (sketch_of_borrowed c.args.image.now) is c.requires.some (c.merge_bytes.ensures.merged some t)
 
 pub returns-in-Bytes-clause-none : goal.returns-in-Bytes-clause-none
 returns-in-Bytes-clause-none g c = λ no has.
     let is = ap sketch_of_borrowed (sym c.in-Bytes.is) in
-    c.merge_registers-in-Bytes.ensures.none no (room_as c.args.self.now _ (sketch_of_borrowed c.args.image.now) (length c.args.body.now) is c.requires.some has)
+    c.merge_bytes.ensures.none no (room_as c.args.self.now _ (sketch_of_borrowed c.args.image.now) (length c.args.body.now) is c.requires.some has)

@@ -4,7 +4,7 @@ use Rattle.std.proofs.lemmas.Result.{IfOk-weaker}
 use Rattle.hll_sketch.specs.EstimatorFields.{FillsFields}
 use Rattle.hll_state.specs.Counter.{content_of}
 use Rattle.hll_c.specs.Answers.{IsImageOf}
-use Rattle.hll_c.proofs.state.image_of_held.Goals as goal
+use Rattle.hll_c.proofs.state.image_of_legal.Goals as goal
 
 pub returns-in-Coupons-clause-ok : goal.returns-in-Coupons-clause-ok
 returns-in-Coupons-clause-ok c =

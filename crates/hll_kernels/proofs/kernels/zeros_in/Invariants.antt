@@ -1,0 +1,8 @@
+-- SPDX-License-Identifier: Apache-2.0
+use Rattle.std.proofs.Common.{◌*◌, take}
+use Rattle.hll_kernels.specs.ZeroCounts.{AreRunningZeros}
+use Rattle.hll_kernels.proofs.kernels.zeros_in.Given as goal
+
+-- the counts so far
+abbrev pub invariant-loop-block : goal.invariant-loop-block
+invariant-loop-block l = AreRunningZeros l.zeros (take (l.block-index * 64) l.bytes)
