@@ -432,7 +432,7 @@ make_without_rt() {
 try_without_rt() {
     place=$(mktemp -d) || return 1
     mkdir "$place/tools" && copy_sources "$place" || return 1
-    for tool in make sh mkdir find sed cc as ld ar objcopy cp mv rm awk sort tr xargs sha256sum cut cat grep dirname; do
+    for tool in make sh mkdir find sed cc as ld ar objcopy cp mv rm awk sort tr xargs sha256sum cut cat grep dirname mktemp; do
         ln -s "$(command -v $tool)" "$place/tools/$tool" || return 1
     done
     make_without_rt -s && cmp "$place/bindings/c/build/libhll.so" "$build/libhll.so" &&
