@@ -10,7 +10,7 @@ endif
 # such jumps slowly. The assembler of GNU has a flag for it, and clang another. Older ones have none. TEXT_FLAGS= on the command
 # line leaves it out.
 JUMPS := -mbranches-within-32B-boundaries
-TEXT_FLAGS := $(if $(filter x86_64,$(PROCESSOR)),$(shell object=$$(mktemp) || exit; \
+TEXT_FLAGS = $(if $(filter x86_64,$(PROCESSOR)),$(shell object=$$(mktemp) || exit; \
 	for flag in -Wa,$(JUMPS) $(JUMPS); do \
 		if $(CC) $$flag -c -x assembler -o "$$object" /dev/null 2>/dev/null; then echo $$flag; break; fi; \
 	done; rm -f "$$object"))
