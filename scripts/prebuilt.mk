@@ -6,9 +6,9 @@ ifndef STATE
 STATE := $(shell $(TOP)/scripts/prebuilt.sh state)
 endif
 
-# No jump of x86-64 crosses a multiple of 32 bytes or ends at one: Intel's processors from Skylake to Comet Lake (2015 to 2020) run
-# such jumps slowly. The assembler of GNU has a flag for it, and clang another. Older ones have none. TEXT_FLAGS= on the command
-# line leaves it out.
+# On x86-64 the assembler is asked that no jump crosses a multiple of 32 bytes or ends at one, since Intel's processors from Skylake
+# to Comet Lake (2015 to 2020) run such jumps slowly. The assembler of GNU has a flag for it, and clang another. Older ones have none.
+# TEXT_FLAGS= on the command line leaves it out.
 JUMPS := -mbranches-within-32B-boundaries
 TEXT_FLAGS = $(if $(filter x86_64,$(PROCESSOR)),$(shell object=$$(mktemp) || exit; \
 	for flag in -Wa,$(JUMPS) $(JUMPS); do \

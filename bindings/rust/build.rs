@@ -198,16 +198,19 @@ fn compile(source: &Path, object: &Path, own: &[&str]) -> Outcome<PathBuf> {
     Ok(object.to_path_buf())
 }
 
-/// Flags to assemble a text with. On x86-64 no jump crosses a multiple of 32 bytes or ends at one: Intel's processors from Skylake
-/// to Comet Lake run such jumps slowly. The assembler of GNU has a flag for it, and clang another. Older ones have none.
+/// Flags to assemble a text with. On x86-64 one asks that no jump crosses a multiple of 32 bytes or ends at one, since Intel's
+/// processors from Skylake to Comet Lake run such jumps slowly. The assembler of GNU has a flag for it, and clang another. Older ones
+/// have none.
 fn text_flags(out: &Path) -> Outcome<Vec<&'static str>> {
+    if processor()? != "x86_64" {
+        return Ok(Vec::new());
+    }
     let empty = out.join("empty.s");
     fs::write(&empty, "")?;
     for flag in ["-Wa,-mbranches-within-32B-boundaries", "-mbranches-within-32B-boundaries"] {
         let mut command = tool("CC", "cc")?;
         command.args([flag, "-c", "-o"]).arg(out.join("empty.o")).arg(&empty).stderr(Stdio::null());
-        let is_known = matches!(command.status(), Ok(status) if status.success());
-        if processor()? == "x86_64" && is_known {
+        if matches!(command.status(), Ok(status) if status.success()) {
             return Ok(vec![flag]);
         }
     }
