@@ -41,23 +41,24 @@ LEGEND = (
 # Each box: its row, how many rows it is high, where it begins and ends in parts of 12, what is known of it, its name,
 # and a line for each fact.
 LAYERS = (
-    (0, 2, 0, 3, PROVED, "Programs",
+    (0, 3, 0, 3, PROVED, "Programs",
         "hll_merge: a plan in,", "one image out", "hll_estimator_fields: what", "others estimate from"),
-    (0, 1, 3, 7, TESTED, "Python: hll_sketches", "the package, the command hll"),
-    (0, 1, 7, 9, TESTED, "Dask", "a tree of tasks"),
-    (0, 1, 9, 12, TESTED, "PostgreSQL, SQLite", "a type, aggregates"),
-    (1, 1, 3, 10, PROVED, "C library: calls over images",
-        "make, add, union, fold, convert, compare, estimate"),
-    (1, 1, 10, 12, TESTED, "Bounds", "in plain C"),
-    (2, 1, 0, 12, PROVED, "Union",
+    (0, 1, 3, 7, TESTED, "C++, Rust, Go, JavaScript", "sketches and unions"),
+    (0, 1, 7, 10, TESTED, "PostgreSQL, SQLite", "aggregates, functions"),
+    (0, 1, 10, 12, TESTED, "Python", "hll, Dask"),
+    (1, 1, 3, 9, TESTED, "Counters, in plain C", "hold a sketch: its memory, waiting values, copies"),
+    (1, 1, 9, 12, TESTED, "Bounds, few values", "in plain C"),
+    (2, 1, 3, 12, PROVED, "C library: calls over images, states and registers",
+        "hash, add, read, merge, fold, convert, compare, write, estimate from registers"),
+    (3, 1, 0, 12, PROVED, "Union",
         "at each slot the greatest value: order, groups and repeats make no difference to the registers"),
-    (3, 1, 0, 12, PROVED, "Sketch",
+    (4, 1, 0, 12, PROVED, "Sketch",
         "a list, then a set, then registers; values are added, and it is folded to fewer registers"),
-    (4, 1, 0, 6, PROVED, "Coupons", "the hash of a value; lists, sets, folds, probing"),
-    (4, 1, 6, 12, PROVED, "Registers", "of 8, 6 and 4 bits; merges, conversions"),
-    (5, 1, 0, 12, PROVED, "Images",
+    (5, 1, 0, 6, PROVED, "Coupons", "the hash of a value; lists, sets, folds, probing"),
+    (5, 1, 6, 12, PROVED, "Registers", "of 8, 6 and 4 bits; merges, conversions"),
+    (6, 1, 0, 12, PROVED, "Images",
         "bytes are read completely or rejected with a reason; what is written is read back unchanged"),
-    (6, 1, 0, 12, TRUSTED, "Toolchain", "the prover and compilers, the C library, the processor"),
+    (7, 1, 0, 12, TRUSTED, "Toolchain", "the prover and compilers, the C library, the processor"),
 )
 
 
@@ -82,12 +83,12 @@ def layers():
         parts.append(plot.words(LEFT + x + 34, 65, what))
     for one in LAYERS:
         parts += box(*one)
-    return plot.document(WHOLE + 2 * LEFT, TOP + 7 * (ROW + GAP) + 10, STYLE, LAYERS_TITLE, parts)
+    return plot.document(WHOLE + 2 * LEFT, TOP + 8 * (ROW + GAP) + 10, STYLE, LAYERS_TITLE, parts)
 
 
 # ---- a union
 
-UNION_TITLE = "A union has at each slot the greater register"
+UNION_TITLE = "A union keeps the larger register of each slot"
 REGISTERS = ((3, 0, 2, 0, 7, 1, 0, 4), (1, 5, 0, 0, 7, 2, 0, 1))
 CELL = 52
 

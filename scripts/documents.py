@@ -8,7 +8,8 @@
 names     Files and sections that a page or a source names are there; a block after "From `FILE`:" is in that file; names in
           backticks are in the sources, and on the pages for reviewers are declared there; a clause is one of the function
           that it is said of; commands name programs, parts and options that there are; the speeds in README.md are in
-          docs/NUMBERS.md; CITATION.cff has the version of hll.h.
+          docs/NUMBERS.md; CITATION.cff has the version of hll.h. Scripts can be executed, as pages call them, and git keeps
+          no file that .gitignore leaves out.
 words     Pages, documentation and messages keep to the words of scripts/words.txt (scripts/wording.py).
 commands  The blocks of README.md run as they are, in a folder without a reader's files, and print what a line `#> ..` after
           them says; so do commands of bindings/c/README.md, SECURITY.md, docs/PLAN.md, docs/PROVED.md and
@@ -177,6 +178,22 @@ def faults_of_citation():
     version = ".".join(re.findall(r"^#define HLL_VERSION_[A-Z]+ (\d+)$", (ROOT / "bindings/c/hll.h").read_text(), re.M))
     if f"\nversion: {version}\n" not in (ROOT / "CITATION.cff").read_text():
         yield f"CITATION.cff: the version is not {version}"
+
+
+def faults_of_scripts():
+    """Files that begin with `#!`, as commands do, and can't be executed."""
+    for path in files_of_project():
+        if path.is_file() and not os.access(path, os.X_OK):
+            with path.open("rb") as file:
+                if file.read(2) == b"#!":
+                    yield f"{path.relative_to(ROOT)}: it begins with #! and can't be executed: chmod +x"
+
+
+def faults_of_ignored_files():
+    """Files that git keeps although .gitignore leaves them out; none where this is no checkout of git."""
+    if (ROOT / ".git").exists() and shutil.which("git"):
+        found = subprocess.run(["git", "ls-files", "-z", "-c", "-i", "--exclude-standard"], cwd=ROOT, capture_output=True, text=True, check=True)
+        yield from (f"{name}: git keeps it, and .gitignore leaves it out: git rm --cached" for name in found.stdout.split("\0") if name)
 
 
 def faults_of_quotes(page, text):
@@ -423,7 +440,7 @@ def check_names():
         for fault in sorted(faults):
             print(f"{page.relative_to(ROOT)}: {fault}")
         failed += bool(faults)
-    of_sources = [*faults_of_sources(), *faults_of_numbers(), *faults_of_citation()]
+    of_sources = [*faults_of_sources(), *faults_of_numbers(), *faults_of_citation(), *faults_of_scripts(), *faults_of_ignored_files()]
     print("".join(fault + "\n" for fault in of_sources), end="")
     failed += bool(of_sources)
     return len(pages()) + 1 - failed, failed

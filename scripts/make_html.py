@@ -264,7 +264,7 @@ def footer_of(page):
     version = ".".join(re.findall(r"^#define HLL_VERSION_[A-Z]+ (\d+)$", (ROOT / "bindings/c/hll.h").read_text("utf-8"), re.M))
     ran = subprocess.run(["git", "log", "-1", "--format=%cs"], cwd=ROOT, capture_output=True, text=True)
     date = f" of {ran.stdout.strip()}" if ran.returncode == 0 else ""
-    return f"Cimbarohe {version}, not yet released; pages{date}. The sources are under the Apache License 2.0. Source of this page: {page.relative_to(ROOT)}"
+    return f"Cimbarohe {version}, not yet released; pages{date}. Our sources are under the Apache License 2.0; prebuilt/ can't be redistributed yet. Source of this page: {page.relative_to(ROOT)}"
 
 
 def neighbour(page, side, entry, targets):

@@ -80,7 +80,7 @@ uncommented() {
 # The C files that are linked with the proved library, and what compiles and links it.
 wasm_sum() {
     {
-        for file in hll.h counter.c estimate.c optional.c state.c; do
+        for file in hll.h proved_calls.h counter.c estimate.c optional.c state.c; do
             uncommented "bindings/c/$file"
         done
         find bindings/javascript/wasm -type f -name '*.[ch]' -print | sort | while IFS= read -r file; do
@@ -102,9 +102,7 @@ wasm() {
 texts_sum() {
     {
         cat scripts/retarget.py scripts/other_systems.py
-        for file in estimate.c optional.c state.c; do
-            sed -n 's/^hll_status proved_\(hll_[a-z_0-9]*\)(.*/\1/p' "bindings/c/$file"
-        done | sort
+        sed -n 's/^WRAPPED([a-z_0-9]*, \(hll_[a-z_0-9]*\),.*/\1/p' bindings/c/proved_calls.h | sort
     } | $sums | cut -d' ' -f1
 }
 

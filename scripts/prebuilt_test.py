@@ -47,7 +47,7 @@ class PrebuiltTest(unittest.TestCase):
             (self.root / "scripts" / name).write_text("pass\n")
         for name in ("c", "javascript/wasm"):
             (self.root / "bindings" / name).mkdir(parents=True)
-        for name in ("c/hll.h", "c/counter.c", "c/estimate.c", "c/optional.c", "c/state.c", "javascript/wasm/calls.c", "javascript/wasm/build.sh", "javascript/wasm/lower.py"):
+        for name in ("c/hll.h", "c/proved_calls.h", "c/counter.c", "c/estimate.c", "c/optional.c", "c/state.c", "javascript/wasm/calls.c", "javascript/wasm/build.sh", "javascript/wasm/lower.py"):
             (self.root / "bindings" / name).write_text("/* %s */ int x; /* two\nlines */\n" % name)
         places = {"ROOT": self.root, "PREBUILT": self.root / "prebuilt", "VERDICT": self.root / "prebuilt" / "VERDICT", "OTHERS": others,
                   "OTHER_TOOLCHAIN": others / "other-toolchain.s", "OTHER_ARCHIVE": others / "other-toolchain.a"}
@@ -286,7 +286,7 @@ a.b.c.48f335490f6b880f:
         self.change("scripts/other_systems.py", "pass", "1")
         self.assertEqual((prebuilt.asked("texts"), self.run_main(OWN, "1", ci="true")[0]), ("stale", 1))
         self.assertEqual((prebuilt.asked("texts"), self.run_main(OWN, "1", ci="true")[0]), ("fresh", 0))
-        (self.root / "bindings/c/state.c").write_text("hll_status proved_hll_new(int x);\n")
+        (self.root / "bindings/c/proved_calls.h").write_text("WRAPPED(hll_status, hll_new, (int x), (x))\n")
         self.assertEqual(prebuilt.asked("texts"), "stale")
 
     def texts_alone(self, version, prover=OWN):

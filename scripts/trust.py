@@ -4,7 +4,8 @@
 it, how much of the library's code is proved, and what is only tested.
 
     scripts/trust.py
-    scripts/trust.py --write     writes the numbers that need no build into docs/PROVED.md
+    scripts/trust.py --write     writes the numbers that need no build into docs/PROVED.md, and the sentence between
+                                 '<!-- proved -->' and '<!-- end -->' of that page into the pages of the bindings
     scripts/trust.py --check     compares them, and prints 'N passed, M failed'
 
 The table is made from prebuilt/VERDICT, which has the prover's last lines, and from a library that is built from prebuilt/ in a
@@ -23,7 +24,7 @@ ROOT = pathlib.Path(__file__).resolve().parent.parent
 sys.dont_write_bytecode = True
 sys.path[:0] = [str(ROOT / "scripts"), str(ROOT / "tests")]
 import prebuilt  # noqa: E402
-import proved_calls  # noqa: E402
+from calls import exported  # noqa: E402
 from rows import texts  # noqa: E402
 
 C = ROOT / "bindings" / "c"
@@ -76,10 +77,10 @@ def shares(build):
 def calls(build):
     """The calls of the library: those that are proved, those that hand over to a proved one, and those that are C alone."""
     names = re.findall(r"^ *(hll_\w+);$", (C / "hll.map").read_text(), re.M)
-    exported = proved_calls.exported()
+    exports = exported()
     wrapped = {name for name, _ in sizes(build / "proved.o")}
-    handed = [name for name in names if name in exported and "proved_" + name in wrapped]
-    direct = [name for name in names if name in exported and name not in handed]
+    handed = [name for name in names if name in exports and "proved_" + name in wrapped]
+    direct = [name for name in names if name in exports and name not in handed]
     return direct, handed, [name for name in names if name not in direct + handed]
 
 
@@ -94,10 +95,10 @@ def rows_on_proof(verdict):
     yield "proved by", verdict.prover
     for path, lines in sorted(verdict.said.items()):
         words = words_of(lines[-1])
-        over = ", over the contracts of %s" % libraries if "/libhll_c" in path else ""
+        over = " of hll_c, over the contracts of %s" % libraries if "/libhll_c" in path else ""
         yield "proved: %s" % path, "%s functions%s: `%s`" % (words["functions"], over, lines[-1])
     words = words_of(verdict.said[TEXT][-1])
-    yield "taken as given by the proof", "the logic `%s`; what the prover computes by itself: %s; as they were proved before: %s" % (
+    yield "taken as given by the proof", "the logic `%s`; what the prover computes by itself: %s; loaded, and not checked again in this run: %s" % (
         words["sum"], words["native"].replace(",", ", "), ", ".join(sorted(name for name, value in words.items() if value == "trusted")))
     lines = [line.partition(" ")[2] for line in verdict.said[TEXT][:-1] if ": none reached" not in line]
     yield "for WebAssembly: %s" % prebuilt.WASM, verdict.wasm
@@ -131,17 +132,45 @@ PAGE = ROOT / "docs" / "PROVED.md"
 BEGIN, END = "<!-- numbers -->\n", "<!-- end -->\n"
 
 
+def functions_in(text):
+    """How many functions a source has: those with a body, and not those that a trait only declares."""
+    text = re.sub(r"//[^\n]*|'(?:\\.|[^\\'\n])'|\"(?:\\.|[^\"\\])*\"", "", text)
+    return sum(has_body(text, found.end()) for found in re.finditer(r"\bfn \w+", text))
+
+
+def has_body(text, start):
+    """Whether a function has a body after its name: blocks of clauses may stand before it, and a declaration ends with ';'."""
+    depth = 0
+    for at in range(start, len(text)):
+        depth += (text[at] in "([{") - (text[at] in ")]}")
+        if depth == 0 and text[at] == ";":
+            return False
+        if depth == 0 and text[at] == "}" and not re.match(r"\s*(?:requires\b|ensures\b|[{;])", text[at + 1:]):
+            return True
+    return True
+
+
+def functions():
+    """How many functions each crate of libhll has without its tests, the lowest crate first."""
+    below = re.search("^hll_c staticlib: (.*)$", (ROOT / "crates.txt").read_text(), re.M)[1].split()
+    sources = {crate: sorted((ROOT / "crates" / crate / "src").rglob("*.rt")) for crate in [*reversed(below), "hll_c"]}
+    return {crate: sum(functions_in(file.read_text("utf-8")) for file in files if not file.stem.endswith("tests"))
+            for crate, files in sources.items()}
+
+
 def numbers():
-    """The lines of the page's table: from the verdict, the exports of hll_c and the calls of the library."""
+    """The lines of the page's table: from the sources, the verdict, the exports of hll_c and the calls of the library."""
     words = words_of(prebuilt.committed().said[TEXT][-1])
-    exports = proved_calls.exported()
+    found = functions()
+    by_crate = ", ".join(f"{many} in `{crate}`" for crate, many in found.items())
+    exports = exported()
     names = re.findall(r"^ *(hll_\w+);$", (C / "hll.map").read_text(), re.M)
     own = [name for name in names if name not in exports]
     counters = [name for name in own if name.startswith("hll_counter_")]
     others = ", ".join(name for name in own if name not in counters)
     return [
         "| of libhll | |", "|---|---|",
-        f"| functions that the prover found proved, for each processor | {words['functions']} |",
+        f"| functions of its Rattle crates, each of them proved | {sum(found.values()):,}: {by_crate} |",
         f"| contracts that the proof takes as given: to allocate, to reallocate and to free, in `heap.c` | {words['axioms']} |",
         f"| proved calls | {len(names) - len(own)} |",
         f"| calls in plain C over proved calls, tested | {len(counters)}: hll_counter_init and the others of counters |",
@@ -154,21 +183,61 @@ def with_numbers(text):
     return before + BEGIN + "\n".join(numbers()) + "\n" + END + rest.split(END, 1)[1]
 
 
-def put_numbers(only_check):
+# ---- a sentence on many pages
+
+
+SENTENCE = re.compile("(<!-- proved -->)(.*?)(<!-- end -->)", re.S)
+PAGES = ["README.md", *(f"bindings/{name}/README.md" for name in "c cpp rust go javascript python postgresql sqlite".split())]
+# The documentation in these sources has the sentence without markers.
+SOURCES = ("bindings/rust/src/lib.rs", "bindings/go/hll.go", "bindings/python/hll_sketches/__init__.py")
+
+
+def sentence():
+    """The sentence of docs/PROVED.md that says what is proved of a binding, without line ends around it."""
+    return SENTENCE.search(PAGE.read_text("utf-8"))[2].strip()
+
+
+def with_sentence(text):
+    return SENTENCE.sub(lambda found: found[1] + sentence() + found[3], text, count=1)
+
+
+def lacks_sentence(name):
+    """Whether a page or a source has not the sentence of docs/PROVED.md."""
+    text = (ROOT / name).read_text("utf-8")
+    if name in PAGES:
+        return not SENTENCE.search(text) or with_sentence(text) != text
+    words = re.sub(r"^(?://!?| \*)", "", text, flags=re.M).split()
+    return " ".join(sentence().split()) not in " ".join(words)
+
+
+def written():
+    """Writes the numbers and the sentence where they have markers."""
+    PAGE.write_text(with_numbers(PAGE.read_text("utf-8")), "utf-8")
+    for name in PAGES:
+        text = (ROOT / name).read_text("utf-8")
+        if with_sentence(text) != text:
+            (ROOT / name).write_text(with_sentence(text), "utf-8")
+    return 0
+
+
+def checked():
+    """Compares the numbers and the sentence. Returns 1 if anything differs."""
     text = PAGE.read_text("utf-8")
-    is_same = with_numbers(text) == text
-    if not only_check:
-        PAGE.write_text(with_numbers(text), "utf-8")
-        return 0
-    if not is_same:
-        print("docs/PROVED.md: its numbers are not those of the sources: run scripts/trust.py --write")
-    print(f"{int(is_same)} passed, {int(not is_same)} failed")
-    return int(not is_same)
+    wrong = ["docs/PROVED.md: its numbers are not those of the sources: run scripts/trust.py --write"] * (with_numbers(text) != text)
+    wrong += [f"{name}: it lacks the sentence that docs/PROVED.md has between its markers: run scripts/trust.py --write, or write it there"
+              for name in (*PAGES, *SOURCES) if lacks_sentence(name)]
+    said, found = words_of(prebuilt.committed().said[TEXT][-1])["functions"], functions()["hll_c"]
+    if prebuilt.asked("state") == "fresh" and said != str(found):
+        wrong.append(f"prebuilt/VERDICT: the prover proved {said} functions of hll_c, and its sources have {found}")
+    for line in wrong:
+        print(line)
+    print(f"{len(PAGES) + len(SOURCES) + 2 - len(wrong)} passed, {len(wrong)} failed")
+    return int(bool(wrong))
 
 
 def main():
     if sys.argv[1:] in (["--write"], ["--check"]):
-        return put_numbers(sys.argv[1] == "--check")
+        return written() if sys.argv[1] == "--write" else checked()
     state = prebuilt.asked("state")
     if state != "fresh" or not (shutil.which("make") and shutil.which("cc")):
         print("no table: prebuilt/ is %s, or make or a C compiler is not here" % state)

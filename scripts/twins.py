@@ -9,7 +9,8 @@
 A run has at least six lines, in .rt files of src/ and .antt files of specs/ and proofs/. Comments, imports, contracts' clauses
 and lines without a name don't count: the lines before and after them are next to each other. A place is a file with the
 function, lemma or type in which the run begins. The list of pairs that are meant is surface/lists/twins.txt. Take a pair out
-when its code is shared; `check` fails while the list names a pair that is gone. The last line is 'N passed, M failed'.
+when its code is shared; `check` fails while the list names a pair that is gone. It also fails if the list has more pairs than its
+line "# At most N pairs" allows: the number at the last release. The last line is 'N passed, M failed'.
 """
 import collections
 import itertools
@@ -101,17 +102,30 @@ def pairs_of(root):
     return pairs
 
 
+def lines_of_list(path):
+    """The lines of a list, none if it is not there."""
+    return path.read_text("utf-8").splitlines() if path.exists() else []
+
+
 def listed(path):
     """The pairs of a list."""
-    lines = path.read_text("utf-8").splitlines() if path.exists() else []
-    return {tuple(line.split(" = ")) for line in lines if line and not line.startswith("#")}
+    return {tuple(line.split(" = ")) for line in lines_of_list(path) if line and not line.startswith("#")}
+
+
+def faults_of_length(path):
+    """What is wrong with the number of pairs of a list."""
+    allowed = re.findall(r"^# At most (\d+) pairs", "\n".join(lines_of_list(path)), re.M)
+    if len(allowed) != 1:
+        yield "%s has no line '# At most N pairs', or two" % LIST
+    elif len(listed(path)) > int(allowed[0]):
+        yield "%s has %d pairs, and may have %s: share code" % (LIST, len(listed(path)), allowed[0])
 
 
 def main(words):
     pairs, path = pairs_of(ROOT), ROOT / LIST
     meant = listed(path)
     if words == ["write"]:
-        head = [line for line in path.read_text("utf-8").splitlines() if line.startswith("#")] if path.exists() else []
+        head = [line for line in lines_of_list(path) if line.startswith("#")]
         path.write_text("\n".join([*head, *(" = ".join(pair) for pair in sorted(pairs))]) + "\n", "utf-8")
         return 0
     is_check = words == ["check"]
@@ -122,7 +136,10 @@ def main(words):
     gone = sorted(meant - set(pairs)) if is_check else []
     for pair in gone:
         print("FAIL: no pair any more, so take it out of %s: %s" % (LIST, " = ".join(pair)))
-    failed = len(gone) + (len(new) if is_check else 0)
+    wrong = list(faults_of_length(path)) if is_check else []
+    for fault in wrong:
+        print("FAIL: " + fault)
+    failed = len(gone) + len(wrong) + (len(new) if is_check else 0)
     print("%d passed, %d failed" % (len(pairs) - (len(new) if is_check else 0), failed))
     return failed != 0
 

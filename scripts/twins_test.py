@@ -54,8 +54,8 @@ class TwinsTest(unittest.TestCase):
                 status = twins.main(list(words))
             return int(status), out.getvalue().splitlines(), (root / twins.LIST).read_text("utf-8")
 
-    def faults(self, files, listed=""):
-        status, lines, _ = self.run_main(files, "check", listed=listed)
+    def faults(self, files, listed="", most="# At most 9 pairs: at the last release.\n"):
+        status, lines, _ = self.run_main(files, "check", listed=most + listed)
         faults = [line.removeprefix("FAIL: ") for line in lines[:-1]]
         self.assertEqual(status, bool(faults))
         return faults
@@ -94,6 +94,16 @@ class TwinsTest(unittest.TestCase):
             "no pair any more, so take it out of surface/lists/twins.txt: " + pair])
         _, _, made = self.run_main(files, "write", listed="# These are meant.\nold = pair\n")
         self.assertEqual(made, "# These are meant.\n%s\n" % pair)
+
+    def test_a_list_that_gets_longer(self):
+        files = {"crates/one/src/a.rt": FUNCTION, "crates/one/src/b.rt": FUNCTION}
+        pair = "crates/one/src/a.rt fn greatest = crates/one/src/b.rt fn greatest"
+        self.assertEqual(self.faults(files, pair, "# At most 1 pairs.\n"), [])
+        self.assertEqual(self.faults(files, pair, "# At most 0 pairs.\n"), ["surface/lists/twins.txt has 1 pairs, and may have 0: share code"])
+        for most in ("", "# At most 1 pairs.\n# At most 2 pairs.\n"):
+            self.assertEqual(self.faults(files, pair, most), ["surface/lists/twins.txt has no line '# At most N pairs', or two"])
+        _, _, made = self.run_main(files, "write", listed="# At most 0 pairs.\n")
+        self.assertEqual(made, "# At most 0 pairs.\n%s\n" % pair)
 
     def test_twice_in_a_file(self):
         (fault,) = self.faults({"crates/one/src/a.rt": FUNCTION + FUNCTION.replace("greatest", "again")})

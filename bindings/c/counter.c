@@ -363,13 +363,14 @@ hll_status hll_counter_info(const hll_counter *counter, hll_state_summary *summa
 /* Makes the first room for an image, so that few are read twice. */
 static hll_status begin_join(hll_counter *counter, const uint8_t *image, size_t len)
 {
-    size_t lg_k = hll_image_lg_k(image, len), room = HLL_STATE_NEW;
+    size_t lg_k, room = HLL_STATE_NEW;
+    hll_head head;
     if (counter->state != NULL || counter->n_waiting > 0)
         return gather(counter);
     free_spare(counter);
-    if (counter->lg_max_k != 0)
-        lg_k = min(counter->lg_max_k, lg_k);
-    if (lg_k != 0 && hll_image_stage(image, len) != HLL_REGISTERS)
+    hll_image_head(image, len, &head, sizeof head);
+    lg_k = counter->lg_max_k == 0 ? head.lg_k : min(counter->lg_max_k, head.lg_k);
+    if (lg_k != 0 && head.stage != HLL_REGISTERS)
         room += min(len, HLL_STATE_MOST(lg_k) - HLL_STATE_NEW);
     else if (lg_k != 0 && len >= ((size_t)1 << lg_k) / 2)
         room += (size_t)1 << lg_k;

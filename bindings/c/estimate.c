@@ -12,10 +12,10 @@ struct estimate {
     uint64_t seen;      /* the number of registers above 0, or the number of coupons */
 };
 
-hll_status proved_hll_estimate(const uint8_t *image, size_t len, struct estimate *estimate);
-hll_status proved_hll_state_estimate(void *state, size_t elements, struct estimate *estimate);
-hll_status proved_hll_registers_estimate(const uint8_t *registers, size_t count, struct estimate *estimate);
-hll_status proved_hll_histogram_estimate(const hll_histogram *histogram, struct estimate *estimate);
+/* Declares the proved calls that are wrapped, which have the prefix proved_ here. */
+#define CALL(type, name, parameters, arguments)
+#define WRAPPED(type, name, parameters, arguments) type proved_##name parameters;
+#include "proved_calls.h"
 
 /* The relative variance of one register: 3 ln 2 - 1. */
 #define REGISTER_VARIANCE 1.07944154167983593
@@ -34,7 +34,6 @@ hll_status proved_hll_histogram_estimate(const hll_histogram *histogram, struct 
 #define SLOTS 67108864.0
 
 /* The most coupons that are estimated from: one for each slot. */
-#define MOST_COUPONS ((uint64_t)1 << 26)
 
 /* A double and its bits. */
 union word {
@@ -261,14 +260,6 @@ hll_status hll_histogram_estimate(const hll_histogram *histogram, hll_estimation
     if (status == HLL_OK)
         *estimation = estimation_of_registers(&found);
     return status;
-}
-
-hll_status hll_coupons_estimate(uint64_t n, hll_estimation *estimation)
-{
-    if (n > MOST_COUPONS)
-        return HLL_ARGUMENT;
-    *estimation = estimation_of_coupons(n);
-    return HLL_OK;
 }
 
 hll_status hll_hip_estimate(const uint8_t *image, size_t len, hll_estimation *estimation)

@@ -2,19 +2,21 @@
 /*
  * HyperLogLog sketches, in the format of DataSketches (HLL, serial version 1).
  *
- *     uint8_t empty[HLL_IMAGE_MAX(12)], image[HLL_IMAGE_MAX(12)];
- *     size_t empty_size, size, end = 5;
+ *     hll_counter counter;
  *     hll_estimation found;
- *     hll_image_new(12, 8, empty, sizeof empty, &empty_size);
- *     hll_image_add(empty, empty_size, (const uint8_t *)"hello", 5, &end, 1, image, sizeof image, &size);
- *     hll_estimate(image, size, &found);
+ *     hll_counter_init(&counter, 12, NULL, NULL);
+ *     hll_counter_add(&counter, (const uint8_t *)"hello", 5);
+ *     hll_counter_estimate(&counter, &found);
+ *     hll_counter_free(&counter);
  *
- * A sketch has one of three forms, all in caller-owned memory. The library keeps no memory between calls, and there are no
- * handles: the caller frees only what the caller allocated.
+ * A sketch has one of four forms:
+ *     A counter grows by itself: a struct of the caller's that allocates what it needs, until hll_counter_free ("counters"
+ *     below).
  *     An image is the bytes of a sketch, for files, columns and other DataSketches libraries. Calls over images read an image
  *     and write another one.
- *     A state is a sketch that grows in place: small while there are few values ("states" below).
+ *     A state is a sketch that grows in memory that the caller resizes: small while there are few values ("states" below).
  *     Registers are an array of 2^lg_k bytes, a sketch of constant size ("caller-owned registers" below).
+ * Images, states and registers are in the caller's memory, and the library keeps nothing of them between calls.
  *
  * A sketch of few values is a list or a set of coupons. A coupon is what the sketch keeps of a value: a slot below 2^26, and
  * a number from 1 to 63. A sketch of many values has 2^lg_k registers. The width is the number of bits of a register in an
@@ -82,9 +84,9 @@
  *       library, and a program that is linked statically ends with SIGILL.
  *
  * Memory
- *     A call allocates with malloc, and frees all that it allocated before it returns. "The memory of reading" an image, in
- *     the comments below, is about as many bytes as its registers or its table have. The comment of each call says what else
- *     it allocates.
+ *     A call allocates with malloc, and frees all that it allocated before it returns. Only a counter keeps what it allocated;
+ *     hll_counter_free frees it. "The memory of reading" an image, in the comments below, is about as many bytes as its
+ *     registers or its table have. The comment of each call says what else it allocates.
  *
  * Processors
  *     On Linux on x86-64 the proved calls are there twice: compiled for x86-64-v2, and for x86-64-v3 (AVX2), which is faster for most
@@ -114,8 +116,10 @@
  *     - Of the unions that hll_image_merge, hll_images_union and hll_images_unionv write, for canonical images under one lg_max_k:
  *       the bytes don't depend on the order, repetition and grouping of the images (the laws bytes_of_unions of hll_sketch), and
  *       the union is canonical too.
- *     Not proved, but tested: counters, bounds, estimates from coupons, hll_hip_estimate, hll_version, hll_processor, the division of
- *     a state's room by four, and what this header defines itself. Nothing is proved of time, threads, NULL and other libraries. Of memory
+ *     - What hll_image_head reports. If the bytes begin with an image, the size is the size of that image.
+ *     Not proved, but tested: counters (the memory of a sketch, its waiting values and copies; each change of the sketch is a
+ *     proved call), bounds, estimates from coupons, hll_hip_estimate, hll_version, hll_processor, the division of a state's room by
+ *     four, and what this header defines itself. Nothing is proved of time, threads, NULL and other libraries. Of memory
  *     one thing is proved: for which images an allocation may fail.
  */
 #ifndef HLL_H
@@ -164,6 +168,9 @@ enum {
 /* The stage of a sketch. */
 enum { HLL_LIST = 0, HLL_SET = 1, HLL_REGISTERS = 2 };
 
+/* The flags of an image. */
+enum { HLL_EMPTY = 4, HLL_COMPACT = 8, HLL_OUT_OF_ORDER = 16 };
+
 /* Enough bytes for every image of this lg_k or a smaller one, at each width: 40 for the header, one for each register, and
  * four for each exception of 4-bit registers. */
 #define HLL_IMAGE_MAX(lg_k) (HLL_CAST(size_t, 40) + (HLL_CAST(size_t, 5) << (lg_k)))
@@ -178,6 +185,18 @@ enum { HLL_LIST = 0, HLL_SET = 1, HLL_REGISTERS = 2 };
 /* A raw coupon, a coupon as 32 bits, is the coupon's value * 2^26 + its slot. */
 #define HLL_COUPON_SLOT(coupon) (HLL_CAST(uint32_t, coupon) & UINT32_C(0x3ffffff))
 #define HLL_COUPON_VALUE(coupon) HLL_CAST(uint8_t, HLL_CAST(uint32_t, coupon) >> 26)
+
+/* What the header of an image and the counts after it say. A later version may add members. */
+typedef struct hll_head {
+    uint64_t size;   /* of the image in bytes; 0 exactly if fault is not HLL_OK */
+    uint32_t count;  /* of coupons in a list or a set, or of exceptions in registers of 4 bits; 0 if there is a fault */
+    uint8_t lg_k;    /* 4 to 21; 0 if the header has a fault, and so are the next four */
+    uint8_t width;   /* 4, 6 or 8 */
+    uint8_t stage;   /* HLL_LIST, HLL_SET or HLL_REGISTERS */
+    uint8_t flags;   /* HLL_EMPTY, HLL_COMPACT and HLL_OUT_OF_ORDER, if they are set */
+    uint8_t minimum; /* of registers of 4 bits: what is added to each nibble */
+    uint8_t fault;   /* the first check of the header and the counts that fails, or HLL_OK */
+} hll_head;
 
 /* What an image says about its sketch. Members that its stage doesn't have are 0. A later version may add members. */
 typedef struct hll_info {
@@ -233,6 +252,14 @@ uint32_t hll_version(void);
 const char *hll_processor(void);
 
 /* ---- what an image says ---- */
+
+/* Reports what the header of an image and the counts after it say, without a look at the rest, which need not be there: 8 bytes
+ * are enough for a list, 12 for a set and 40 for registers. If the bytes begin with an image, head->size is its size. If a
+ * check of the header or of the counts fails (docs/FORMAT.md, "Order of checks"), head->fault is its status, HLL_TRUNCATED if these
+ * bytes are too few. An image can be as large as 268 MB and still have lg_k 4, so compare head->size with what you accept before
+ * you read on. head_size is sizeof *head.
+ * Returns HLL_OK, or HLL_ARGUMENT if head_size is another size, as in hll_image_info. Allocates nothing. */
+hll_status hll_image_head(const uint8_t *image, size_t len, hll_head *head, size_t head_size);
 
 /* Reports what an image says about its sketch. info_size is sizeof *info. If it is not the size in this version of the
  * library, the caller was compiled for another version, and the call returns HLL_ARGUMENT.
@@ -371,11 +398,6 @@ hll_status hll_registers_add(uint8_t *registers, size_t count, const uint8_t *va
 hll_status hll_registers_add_fixed(uint8_t *registers, size_t count, const uint8_t *values, size_t values_len,
                                    size_t value_len);
 
-/* Adds the values between offsets to the registers, as Apache Arrow has them: "offsets, offsets_len" above.
- * Returns HLL_OK or HLL_ARGUMENT. Allocates nothing. */
-hll_status hll_registers_add_ends32(uint8_t *registers, size_t count, const uint8_t *values, size_t values_len,
-                                    const int32_t *offsets, size_t offsets_len);
-
 /* Adds n raw coupons to the registers, as hll_coupons writes them. If a raw coupon has the value 0, the call returns
  * HLL_ARGUMENT.
  * Returns HLL_OK or HLL_ARGUMENT. Allocates nothing. */
@@ -426,10 +448,10 @@ hll_status hll_registers_image(const uint8_t *registers, size_t count, unsigned 
  * (A program also checks the statuses, and that malloc and realloc don't return NULL.)
  *
  * On HLL_BUFFER the sketch is unchanged, and *size bytes are enough for the same call. For coupons they are enough for half as
- * many again and eight more, for registers they are exactly what is needed, and they are at most HLL_STATE_MOST. So a loop
- * reallocates only a few times. The bytes may be moved, and need no alignment. They are the same on processors of either byte
- * order. They change with the version of the library, which rejects bytes of another version (HLL_ARGUMENT): store images in
- * files and columns, not states.
+ * many again and eight more, but no more than the largest set needs. For registers they are exactly what is needed, and they are
+ * at most HLL_STATE_MOST. So a loop reallocates only a few times. The bytes may be moved, and need no alignment. They are the
+ * same on processors of either byte order. They change with the version of the library, which rejects bytes of another version
+ * (HLL_ARGUMENT): store images in files and columns, not states.
  *
  * The image of a state is the image that hll_image_add and hll_images_union would make of an empty sketch with the same values
  * and sketches. Without values it is the image of an empty list. If the bytes are not a state, a call returns HLL_ARGUMENT. If
@@ -438,7 +460,7 @@ hll_status hll_registers_image(const uint8_t *registers, size_t count, unsigned 
  *
  * A state takes 40 bytes, and four for each coupon. It takes more if values repeat, because a repeated coupon stays until the
  * coupons are sorted. Before a call returns HLL_BUFFER it sorts them, unless at most a quarter of the coupons is unsorted.
- * Close to registers it takes HLL_STATE_MOST, because the registers are made next to the coupons.
+ * When coupons become registers it needs HLL_STATE_MOST, because the registers are made next to the coupons.
  */
 
 /* The size of a new state, in bytes. */
@@ -670,10 +692,6 @@ hll_status hll_registers_estimate(const uint8_t *registers, size_t count, hll_es
  * Returns HLL_OK or HLL_ARGUMENT. Allocates nothing. */
 hll_status hll_histogram_estimate(const hll_histogram *histogram, hll_estimation *estimation);
 
-/* Estimates as hll_estimate does, from a list or a set of n distinct coupons, at most 2^26. Not proved.
- * Returns HLL_OK or HLL_ARGUMENT. Allocates nothing. */
-hll_status hll_coupons_estimate(uint64_t n, hll_estimation *estimation);
-
 /* Returns a status as one word: "ok", "truncated", "family" and so on, or "unknown" for any other number. */
 static inline const char *hll_reason(hll_status status)
 {
@@ -709,59 +727,14 @@ static inline const char *hll_message(hll_status status)
     return status <= HLL_OTHER_LG_K ? sentences[status] : "The status is unknown.";
 }
 
-/* Return what the header of an image says, without checking the rest: its lg_k, 4 to 21; its width, 4, 6 or 8; and its stage.
- * They return 0 (HLL_LIST for the stage) if there are fewer than eight bytes, or if the header has no such value. */
-static inline uint8_t hll_image_lg_k(const uint8_t *image, size_t len)
-{
-    return 8 <= len && 4 <= image[3] && image[3] <= 21 ? image[3] : 0;
-}
-
-static inline uint8_t hll_image_width(const uint8_t *image, size_t len)
-{
-    uint8_t bits = 8 <= len ? image[7] >> 2 & 3 : 3;
-    return bits == 3 ? 0 : HLL_CAST(uint8_t, 4 + 2 * bits);
-}
-
-static inline uint8_t hll_image_stage(const uint8_t *image, size_t len)
-{
-    uint8_t stage = 8 <= len ? image[7] & 3 : 0;
-    return stage == 3 ? 0 : stage;
-}
-
-/* Returns the 32-bit number in four bytes, the lowest byte first. */
-static inline uint32_t hll_number(const uint8_t *bytes)
-{
-    return bytes[0] | HLL_CAST(uint32_t, bytes[1]) << 8 | HLL_CAST(uint32_t, bytes[2]) << 16 |
-           HLL_CAST(uint32_t, bytes[3]) << 24;
-}
-
-/* Returns the size that the header of an image gives, without checking the rest: quick, and exact if the bytes are an image.
- * The header is the first 8 bytes of a list, 12 of a set and 40 of registers. Returns 0 if it is cut off or gives no size. */
-static inline size_t hll_image_header_size(const uint8_t *image, size_t len)
-{
-    uint8_t lg_k = hll_image_lg_k(image, len), width = hll_image_width(image, len), stage = hll_image_stage(image, len);
-    size_t header = stage == HLL_LIST ? 8 : stage == HLL_SET ? 12 : 40, count;
-    if (lg_k == 0 || width == 0 || len < header)
-        return 0;
-    if (stage == HLL_REGISTERS && width != 4)
-        return HLL_IMAGE_ROOM(lg_k, width);
-    if (stage == HLL_LIST)
-        return image[5] & 4 ? 8 : 8 + 4 * HLL_CAST(size_t, image[5] & 8 ? image[6] : 8);
-    count = hll_number(image + header - 4);
-    if (!(image[5] & 8) && (stage == HLL_SET || count != 0)) { /* all buckets */
-        if (image[4] > 21)
-            return 0;
-        count = HLL_CAST(size_t, 1) << image[4];
-    }
-    return header + (stage == HLL_SET ? 0 : (HLL_CAST(size_t, 1) << lg_k) / 2) + 4 * count;
-}
-
-/* Returns whether an untrusted image is quick to read: whether it has at most `most` bytes, and byte 3, its lg_k, is at most
- * `lg_k`. 12 and 8192 accept ordinary images of lg_k 12, of which the slowest takes milliseconds (docs/OPERATING.md, "Images from
- * others"). No other byte is read. */
+/* Returns whether an untrusted image is quick to read, or to reject: whether it has at most `most` bytes, and its lg_k is at most
+ * `lg_k` or its header has a fault. 12 and 8192 accept ordinary images of lg_k 12, of which the slowest takes milliseconds
+ * (docs/OPERATING.md, "Images from others"). Only the head is read. */
 static inline int hll_is_small(const uint8_t *image, size_t len, unsigned lg_k, size_t most)
 {
-    return 4 <= len && len <= most && image[3] <= lg_k;
+    hll_head head;
+
+    return len <= most && hll_image_head(image, len, &head, sizeof head) == HLL_OK && head.lg_k <= lg_k;
 }
 
 #ifdef __cplusplus

@@ -5,20 +5,11 @@
  */
 #include "hll.h"
 
-hll_status proved_hll_image_merge(unsigned lg_max_k, unsigned width, const uint8_t *left, size_t left_len,
-                                  const uint8_t *right, size_t right_len, uint8_t *out, size_t room, size_t *size,
-                                  size_t *failed);
-hll_status proved_hll_images_union(unsigned lg_max_k, unsigned width, const uint8_t *images, size_t images_len,
-                                   const size_t *ends, size_t n, uint8_t *out, size_t room, size_t *size,
-                                   size_t *failed);
-hll_status proved_hll_images_unionv(unsigned lg_max_k, unsigned width, const hll_bytes *parts, size_t n, uint8_t *out,
-                                    size_t room, size_t *size, size_t *failed);
-hll_status proved_hll_images_agree(const uint8_t *left, size_t left_len, const uint8_t *right, size_t right_len,
-                                   uint8_t *same, size_t *failed);
-hll_status proved_hll_registers_merge(uint8_t *registers, size_t count, const uint8_t *image, size_t len,
-                                     uint8_t *lg_k);
-hll_status proved_hll_registers_merge_registers(uint8_t *registers, size_t count, const uint8_t *others,
-                                               size_t others_count, uint8_t *lg_k);
+/* Declares the proved calls that are wrapped, which have the prefix proved_ here. */
+struct estimate; /* of estimate.c */
+#define CALL(type, name, parameters, arguments)
+#define WRAPPED(type, name, parameters, arguments) type proved_##name parameters;
+#include "proved_calls.h"
 
 hll_status hll_image_merge(unsigned lg_max_k, unsigned width, const uint8_t *left, size_t left_len,
                            const uint8_t *right, size_t right_len, uint8_t *out, size_t room, size_t *size,

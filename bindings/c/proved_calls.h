@@ -1,9 +1,10 @@
 /* SPDX-License-Identifier: Apache-2.0 */
 /*
  * The proved calls: CALL(type, name, (parameters), (arguments)) for a call of hll.h, and WRAPPED(..) for one to which optional.c,
- * state.c or estimate.c hands over, under the name proved_... scripts/proved_calls.py writes this file from theirs.
+ * state.c or estimate.c hands over, under the name proved_... scripts/calls.py writes this file from hll.h.
  */
 /* clang-format off */
+CALL(hll_status, hll_image_head, (const uint8_t *image, size_t len, hll_head *head, size_t head_size), (image, len, head, head_size))
 CALL(hll_status, hll_image_info, (const uint8_t *image, size_t len, hll_info *info, size_t info_size), (image, len, info, info_size))
 CALL(hll_status, hll_image_check, (const uint8_t *image, size_t len), (image, len))
 CALL(hll_status, hll_image_size, (const uint8_t *bytes, size_t len, size_t *size), (bytes, len, size))
@@ -21,14 +22,12 @@ CALL(hll_status, hll_image_clear_estimator_fields, (const uint8_t *image, size_t
 WRAPPED(hll_status, hll_images_agree, (const uint8_t *left, size_t left_len, const uint8_t *right, size_t right_len, uint8_t *same, size_t *failed), (left, left_len, right, right_len, same, failed))
 CALL(hll_status, hll_registers_add, (uint8_t *registers, size_t count, const uint8_t *values, size_t values_len, const size_t *ends, size_t n), (registers, count, values, values_len, ends, n))
 CALL(hll_status, hll_registers_add_fixed, (uint8_t *registers, size_t count, const uint8_t *values, size_t values_len, size_t value_len), (registers, count, values, values_len, value_len))
-CALL(hll_status, hll_registers_add_ends32, (uint8_t *registers, size_t count, const uint8_t *values, size_t values_len, const int32_t *offsets, size_t offsets_len), (registers, count, values, values_len, offsets, offsets_len))
 CALL(hll_status, hll_registers_add_coupons, (uint8_t *registers, size_t count, const uint32_t *coupons, size_t n), (registers, count, coupons, n))
 WRAPPED(hll_status, hll_registers_merge, (uint8_t *registers, size_t count, const uint8_t *image, size_t len, uint8_t *lg_k), (registers, count, image, len, lg_k))
 WRAPPED(hll_status, hll_registers_merge_registers, (uint8_t *registers, size_t count, const uint8_t *others, size_t others_count, uint8_t *lg_k), (registers, count, others, others_count, lg_k))
 CALL(hll_status, hll_registers_fold, (uint8_t *registers, size_t count, unsigned to), (registers, count, to))
 CALL(hll_status, hll_registers_histogram, (const uint8_t *registers, size_t count, hll_histogram *histogram), (registers, count, histogram))
 CALL(hll_status, hll_registers_image, (const uint8_t *registers, size_t count, unsigned width, uint8_t *out, size_t room, size_t *size), (registers, count, width, out, room, size))
-WRAPPED(hll_status, hll_registers_estimate, (const uint8_t *registers, size_t count, struct estimate *estimate), (registers, count, estimate))
 WRAPPED(hll_status, hll_state_new, (unsigned lg_k, void *state, size_t elements), (lg_k, state, elements))
 WRAPPED(hll_status, hll_state_info, (const void *state, size_t elements, hll_state_summary *summary, size_t summary_size), (state, elements, summary, summary_size))
 WRAPPED(hll_status, hll_state_add, (void *state, size_t elements, size_t *size, const uint8_t *values, size_t values_len, const size_t *ends, size_t n), (state, elements, size, values, values_len, ends, n))
@@ -43,4 +42,5 @@ CALL(hll_status, hll_coupons, (const uint8_t *values, size_t values_len, const s
 CALL(hll_status, hll_coupons_fixed, (const uint8_t *values, size_t values_len, size_t value_len, uint32_t *coupons, size_t room), (values, values_len, value_len, coupons, room))
 CALL(hll_status, hll_coupons_ends32, (const uint8_t *values, size_t values_len, const int32_t *offsets, size_t offsets_len, uint32_t *coupons, size_t room), (values, values_len, offsets, offsets_len, coupons, room))
 WRAPPED(hll_status, hll_estimate, (const uint8_t *image, size_t len, struct estimate *estimate), (image, len, estimate))
+WRAPPED(hll_status, hll_registers_estimate, (const uint8_t *registers, size_t count, struct estimate *estimate), (registers, count, estimate))
 WRAPPED(hll_status, hll_histogram_estimate, (const hll_histogram *histogram, struct estimate *estimate), (histogram, estimate))

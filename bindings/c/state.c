@@ -4,18 +4,11 @@
  */
 #include "hll.h"
 
-hll_status proved_hll_state_new(unsigned lg_k, void *state, size_t elements);
-hll_status proved_hll_state_info(const void *state, size_t elements, hll_state_summary *summary, size_t summary_size);
-hll_status proved_hll_state_add(void *state, size_t elements, size_t *size, const uint8_t *values, size_t values_len,
-                                const size_t *ends, size_t n);
-hll_status proved_hll_state_add_value(void *state, size_t elements, size_t *size, const uint8_t *value, size_t len);
-hll_status proved_hll_state_add_coupons(void *state, size_t elements, size_t *size, const uint32_t *coupons, size_t n);
-hll_status proved_hll_state_join(unsigned lg_max_k, void *state, size_t elements, size_t *size, const uint8_t *image,
-                                 size_t len);
-hll_status proved_hll_state_join_state(unsigned lg_max_k, void *state, size_t elements, size_t *size, void *other,
-                                       size_t other_elements);
-hll_status proved_hll_state_image(void *state, size_t elements, unsigned width, uint8_t *out, size_t out_room,
-                                  size_t *size);
+/* Declares the proved calls that are wrapped, which have the prefix proved_ here. */
+struct estimate; /* of estimate.c */
+#define CALL(type, name, parameters, arguments)
+#define WRAPPED(type, name, parameters, arguments) type proved_##name parameters;
+#include "proved_calls.h"
 
 hll_status hll_state_new(unsigned lg_k, void *state, size_t room)
 {

@@ -129,8 +129,8 @@ class lg_k_error : public std::runtime_error {
     unsigned lg_k_, other_;
 };
 
-/// Returns whether an untrusted image is quick to read: it has at most `most` bytes and an lg_k of at most `lg_k`. No
-/// other byte is read. The defaults accept every ordinary image of lg_k 12 (docs/OPERATING.md, "Images from
+/// Returns whether an untrusted image is quick to read, or to reject: it has at most `most` bytes, and an lg_k of at most
+/// `lg_k` or a fault in its header. The defaults accept every ordinary image of lg_k 12 (docs/OPERATING.md, "Images from
 /// others").
 inline bool is_small(const void *image, size_t size, unsigned lg_k = 12, size_t most = 8192)
 {
@@ -198,15 +198,29 @@ inline void read_up_to(std::istream &in, std::vector<uint8_t> &bytes, size_t siz
     }
 }
 
-/// Reads the bytes of the image that comes next in a stream: all that its header announces, and no more.
+/// Returns what the header of an image and the counts after it say.
+inline hll_head head_of(const uint8_t *image, size_t size)
+{
+    hll_head head = {};
+    check(hll_image_head(image, size, &head, sizeof head));
+    return head;
+}
+
+/// Reads the bytes of the image that comes next in a stream: all that its head announces, and no more. Throws image_error if
+/// the head has a fault.
 inline std::vector<uint8_t> next_image(std::istream &in)
 {
     std::vector<uint8_t> image;
-    read_up_to(in, image, 8);
-    const uint8_t stage = hll_image_stage(image.data(), image.size());
-    if (stage != HLL_LIST)
-        read_up_to(in, image, stage == HLL_SET ? 12 : 40);
-    read_up_to(in, image, hll_image_header_size(image.data(), image.size()));
+    hll_head head = {};
+    for (const size_t size : {size_t(8), size_t(12), size_t(40)}) { // what the head of a list, a set and registers takes
+        read_up_to(in, image, size);
+        head = head_of(image.data(), image.size());
+        if (head.fault != HLL_TRUNCATED)
+            break;
+    }
+    if (head.fault != HLL_OK)
+        throw image_error(head.fault, image.size());
+    read_up_to(in, image, static_cast<size_t>(head.size));
     return image;
 }
 
@@ -594,9 +608,9 @@ class sketch : public detail::counter {
     static sketch deserialize(const void *image, size_t size)
     {
         const uint8_t *bytes = detail::checked_bytes(image, size);
-        const unsigned lg_k = hll_image_lg_k(bytes, size), bits = hll_image_width(bytes, size);
-        sketch made(lg_k ? lg_k : detail::default_lg_k,
-                    width_of(bits ? bits : 8)); // if the header is wrong, join returns the reason
+        const hll_head head = detail::head_of(bytes, size);
+        sketch made(head.lg_k ? head.lg_k : detail::default_lg_k,
+                    width_of(head.width ? head.width : 8)); // if the header is wrong, join returns the reason
         const hll_status status = made.state_.join(bytes, size);
         if (detail::is_refusal(status))
             throw image_error(status, size);
@@ -713,7 +727,7 @@ class union_ : public detail::counter {
     void update_image(const void *image, size_t size)
     {
         const uint8_t *bytes = detail::checked_bytes(image, size);
-        joined(state_.join(bytes, size), hll_image_lg_k(bytes, size), size);
+        joined(state_.join(bytes, size), detail::head_of(bytes, size).lg_k, size);
     }
     void update_image(const std::vector<uint8_t> &image) { update_image(image.data(), image.size()); }
 
@@ -764,7 +778,7 @@ class union_ : public detail::counter {
             const hll_status status = copy.state_.join(images[i].bytes, images[i].len);
             if (detail::is_refusal(status))
                 throw image_error(status, images[i].len, i);
-            copy.joined(status, hll_image_lg_k(images[i].bytes, images[i].len));
+            copy.joined(status, detail::head_of(images[i].bytes, images[i].len).lg_k);
         }
         swap(copy);
     }

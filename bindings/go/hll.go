@@ -1,7 +1,11 @@
 // SPDX-License-Identifier: Apache-2.0
 
 // Package hll counts distinct values with HyperLogLog sketches in the format of Apache DataSketches, and merges them, over the
-// calls of libhll, which are proved.
+// C library libhll.
+//
+// Proved calls of the C library hash and add values, read, merge and write images, and estimate from registers. The counter that
+// holds a sketch between these calls (its memory, waiting values, copies), bounds, and estimates of few values are plain C: tested,
+// not proved.
 //
 //	monday, err := hll.New(12)
 //	err = monday.AddString("ann")
@@ -127,7 +131,9 @@ func NewUnion(lgMaxK int) (*Sketch, error) {
 // Read returns the sketch of an image, which is checked whole. Bytes after the image are ignored. If the image is untrusted, call
 // IsSmall first.
 func Read(image []byte) (*Sketch, error) {
-	lgK := int(C.hll_image_lg_k(start(image), C.size_t(len(image))))
+	var head C.hll_head
+	C.hll_image_head(start(image), C.size_t(len(image)), &head, C.sizeof_hll_head)
+	lgK := int(head.lg_k)
 	if lgK == 0 {
 		lgK = 4 // so that the merge returns the reason
 	}
@@ -141,7 +147,8 @@ func Read(image []byte) (*Sketch, error) {
 	return s, nil
 }
 
-// IsSmall returns whether an untrusted image is quick to read: it has at most 8,192 bytes and an lg_k of at most 12.
+// IsSmall returns whether an untrusted image is quick to read, or to reject: it has at most 8,192 bytes, and an lg_k of at
+// most 12 or a fault in its header.
 func IsSmall(image []byte) bool {
 	return C.hll_is_small(start(image), C.size_t(len(image)), 12, 8192) != 0
 }

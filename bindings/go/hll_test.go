@@ -154,7 +154,7 @@ func TestBadImages(t *testing.T) {
 		err.Error() != "these 8 bytes are not the image of a sketch: The family byte is not 7. (family)" {
 		t.Error(err)
 	}
-	if !IsSmall(image) || IsSmall([]byte{2, 1, 7, 21, 3, 12, 0, 8}) || IsSmall(nil) {
+	if !IsSmall(image) || IsSmall([]byte{2, 1, 7, 21, 3, 12, 0, 8}) || !IsSmall(nil) {
 		t.Error("IsSmall")
 	}
 }

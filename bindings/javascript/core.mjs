@@ -2,6 +2,7 @@
 // HyperLogLog sketches over the WebAssembly module. `make` takes the exports of an instance; hll.mjs loads one. hll.d.mts
 // describes each public item.
 
+// scripts/calls.py writes what follows, from bindings/c/hll.h
 /** A word for each status of a call. */
 export const REASONS = Object.freeze([
   "ok", "truncated", "family", "version", "lgk", "width", "stage", "preamble", "lgarr", "count", "coupon", "register",
@@ -28,6 +29,7 @@ export const MESSAGES = Object.freeze([
   "What is to be merged has fewer registers.",
   "The sketches have different lg_k, and no lg_max_k was given.",
 ]);
+// end of what scripts/calls.py writes
 
 const OK = 0, ARGUMENT = 12, MEMORY = 13, BUFFER = 14, COARSER = 15, OTHER_LG_K = 16;
 const STAGES = Object.freeze(["list", "set", "registers"]);
@@ -90,8 +92,6 @@ function checkedDeviations(deviations) {
   return deviations;
 }
 
-const widthOf = (image) => 4 + 2 * ((image[7] >> 2) & 3);
-
 /** Returns the exports of an instance, so that after a trap, or any other exception, no call is made any more. */
 function guarded(exports) {
   const state = { trap: null };
@@ -107,6 +107,9 @@ function guarded(exports) {
   for (const [name, value] of Object.entries(exports)) state[name] = typeof value === "function" ? guard(value) : value;
   return state;
 }
+
+/** The bytes that are enough for the head of each image. */
+const HEAD_BYTES = 40;
 
 /** Makes the classes over the exports of one instance. */
 export function make(exports) {
@@ -366,7 +369,7 @@ export function make(exports) {
       const image = counter === null ? imageOf(other) : null;
       const status = counter === null ? this.join(image) : wasm.hll_counter_join_counter(this.place, counter.place);
       if (status !== OTHER_LG_K) return ensure(status);
-      const lgKs = [this.info().lgK, counter === null ? image[3] : counter.info().lgK];
+      const lgKs = [this.info().lgK, counter === null ? headOf(image).lgK : counter.info().lgK];
       throw new HllError(status, { lgKs, message: `The sketches have lg_k ${lgKs[0]} and ${lgKs[1]}, and no lgMaxK was given.` });
     }
   }
@@ -381,10 +384,19 @@ export function make(exports) {
     return status === OK ? null : REASONS[status];
   }
 
-  /** Returns whether an untrusted image is quick to read; no other byte than its lg_k is read. */
+  /** Returns what the header of an image and the counts after it say, of at least its first 40 bytes. */
+  function headOf(data) {
+    return over(bytesOf(data).subarray(0, HEAD_BYTES), (at, len) => {
+      ensure(wasm.hll_image_head(at, len, REPORT));
+      const [lgK, width, stage, flags, minimum, fault] = u8.subarray(REPORT + 12);
+      return { size: countAt(0), count: u32[(REPORT >> 2) + 2], lgK, width, stage: STAGES[stage], flags, minimum, fault: fault === OK ? null : REASONS[fault] };
+    });
+  }
+
+  /** Returns whether an untrusted image is quick to read, or to reject, by its size and the lg_k of its header. */
   function isSmall(data, { maxLgK = 12, maxBytes = 8192 } = {}) {
     const bytes = bytesOf(data);
-    return bytes.length >= 4 && bytes.length <= maxBytes && bytes[3] <= maxLgK;
+    return bytes.length <= maxBytes && headOf(bytes).lgK <= maxLgK;
   }
 
   /** Returns how many bytes the image has that these bytes begin with. */
@@ -468,13 +480,13 @@ export function make(exports) {
     static fromBytes(data) {
       const bytes = bytesOf(data), size = sizeOf(bytes), made = new Sketch(unmade);
       made.#image = bytes.slice(0, size);
-      made.#width = widthOf(bytes);
+      made.#width = headOf(bytes).width;
       return made;
     }
 
     #own() {
       if (this.#counter === null) {
-        const counter = new Counter(this.#image[3], 0);
+        const counter = new Counter(headOf(this.#image).lgK, 0);
         ensure(counter.join(this.#image));
         this.#counter = counter;
         this.#image = null;
@@ -536,7 +548,7 @@ export function make(exports) {
     }
 
     get lgK() {
-      return this.#counter !== null ? this.#counter.info().lgK : this.#image[3];
+      return this.#counter !== null ? this.#counter.info().lgK : headOf(this.#image).lgK;
     }
 
     get width() {
@@ -546,7 +558,7 @@ export function make(exports) {
     /** "list", "set" or "registers": the form of the image. */
     get stage() {
       if (this.#counter !== null && this.#counter.info().stage === IN_REGISTERS) return "registers";
-      return STAGES[(this.#image ?? this.toBytes())[7] & 3];
+      return headOf(this.#image ?? this.toBytes()).stage;
     }
 
     get isEmpty() {
@@ -747,5 +759,5 @@ export function make(exports) {
 
   const number = wasm.hll_version();
   const version = [Math.floor(number / 1e6), Math.floor(number / 1e3) % 1e3, number % 1e3].join(".");
-  return { Sketch, Union, Registers, fault, isSmall, sizeOf, infoOf, histogramOf, hipOf, agree, couponOf, version };
+  return { Sketch, Union, Registers, fault, isSmall, headOf, sizeOf, infoOf, histogramOf, hipOf, agree, couponOf, version };
 }

@@ -1,9 +1,11 @@
 // SPDX-License-Identifier: Apache-2.0
 
 /** A word for a status of a call: why bytes are not an image ("truncated" to "register"), or another error. */
+// scripts/calls.py writes what follows, from bindings/c/hll.h
 export type Reason =
-  | "ok" | "truncated" | "family" | "version" | "lgk" | "width" | "stage" | "preamble" | "lgarr" | "count" | "coupon"
-  | "register" | "argument" | "memory" | "buffer" | "coarser" | "other_lg_k";
+  "ok" | "truncated" | "family" | "version" | "lgk" | "width" | "stage" | "preamble" | "lgarr" | "count" | "coupon" |
+  "register" | "argument" | "memory" | "buffer" | "coarser" | "other_lg_k";
+// end of what scripts/calls.py writes
 
 /** The words of statuses 0 to 16, and a sentence for each. */
 export const REASONS: readonly Reason[];
@@ -51,6 +53,24 @@ export interface Estimation {
   /** The bounds at 1, 2 and 3 standard deviations. */
   lower: [number, number, number];
   upper: [number, number, number];
+}
+
+/** What the header of an image and the counts after it say. */
+export interface Head {
+  /** The size of the image in bytes: 0 if there is a fault. */
+  size: number;
+  /** The number of coupons, or of the exceptions of 4-bit registers: 0 if there is a fault. */
+  count: number;
+  /** 4 to 21. If the header has a fault, it is 0, as are the width, the flags and the minimum, and the stage is "list". */
+  lgK: number;
+  width: Width | 0;
+  stage: Stage;
+  /** 4 for empty, 8 for compact, 16 for out of order. */
+  flags: number;
+  /** What is added to each nibble of 4-bit registers. */
+  minimum: number;
+  /** The first check of the header and the counts that fails. */
+  fault: Exclude<Reason, "ok"> | null;
 }
 
 /** What an image says about its sketch. */
@@ -163,7 +183,12 @@ export class Registers {
 
 /** Returns why bytes are not an image, or null if they are one. */
 export function fault(image: Bytes): Exclude<Reason, "ok"> | null;
-/** Returns whether an untrusted image is quick to read: whether its lg_k is at most 12 and it has at most 8,192 bytes. */
+/** Returns what the header of an image and its counts say, of at least its first 40 bytes. The rest is neither needed nor checked. */
+export function headOf(image: Bytes): Head;
+/**
+ * Returns whether an untrusted image is quick to read, or to reject: it has at most 8,192 bytes, and its lg_k is at most 12 or its
+ * header has a fault.
+ */
 export function isSmall(image: Bytes, limits?: { maxLgK?: number; maxBytes?: number }): boolean;
 /** Returns the size of the image that the bytes begin with. Throws HllError if they are not an image. */
 export function sizeOf(image: Bytes): number;
@@ -186,6 +211,7 @@ export interface Module {
   Union: typeof Union;
   Registers: typeof Registers;
   fault: typeof fault;
+  headOf: typeof headOf;
   isSmall: typeof isSmall;
   sizeOf: typeof sizeOf;
   infoOf: typeof infoOf;

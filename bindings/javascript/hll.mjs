@@ -18,5 +18,5 @@ export async function load() {
   return make((await WebAssembly.instantiate(compiled)).exports);
 }
 
-export const { Sketch, Union, Registers, fault, isSmall, sizeOf, infoOf, histogramOf, hipOf, agree, couponOf, version } = await load();
+export const { Sketch, Union, Registers, fault, isSmall, headOf, sizeOf, infoOf, histogramOf, hipOf, agree, couponOf, version } = await load();
 export { HllError, MESSAGES, REASONS, Real, TrapError };

@@ -109,7 +109,7 @@ value_of_image(MemoryContext parent, bytea *image)
 {
 	hll_counter counter;
 
-	if (hll_image_stage(IMAGE(image)) != HLL_REGISTERS)
+	if (head_of(IMAGE(image)).stage != HLL_REGISTERS)
 		return PointerGetDatum(image);
 	make_counter(&counter, CurrentMemoryContext, 0);
 	check_status(join_image(&counter, IMAGE(image)));
@@ -216,7 +216,7 @@ are_alike(uint8 lg_max_k, Side left, Side right)
 	lg_k = named_lg_k(IMAGE(left.image));
 	return (lg_max_k == 0 || lg_max_k == lg_k) && lg_k == named_lg_k(IMAGE(right.image)) &&
 		named_width(IMAGE(left.image)) == named_width(IMAGE(right.image)) &&
-		hll_image_stage(IMAGE(left.image)) != HLL_REGISTERS && hll_image_stage(IMAGE(right.image)) != HLL_REGISTERS;
+		head_of(IMAGE(left.image)).stage != HLL_REGISTERS && head_of(IMAGE(right.image)).stage != HLL_REGISTERS;
 }
 
 /* Returns the image of the union of such sides, by the call that merges images. It takes a third of the time of a counter. */

@@ -32,20 +32,29 @@ numbered_image_in(FunctionCallInfo fcinfo, int argument)
 	return image;
 }
 
+hll_head
+head_of(const uint8 *image, size_t size)
+{
+	hll_head	head;
+
+	check_status(hll_image_head(image, size, &head, sizeof head));
+	return head;
+}
+
 uint8
 named_lg_k(const uint8 *image, size_t size)
 {
-	uint8		lg_k = hll_image_lg_k(image, size);
+	hll_head	head = head_of(image, size);
 
-	return lg_k == 0 ? 4 : lg_k;
+	return head.lg_k == 0 ? 4 : head.lg_k;
 }
 
 uint8
 named_width(const uint8 *image, size_t size)
 {
-	uint8		width = hll_image_width(image, size);
+	hll_head	head = head_of(image, size);
 
-	return width == 0 ? 8 : width;
+	return head.width == 0 ? 8 : head.width;
 }
 
 PG_FUNCTION_INFO_V1(hll_pg_version);
@@ -140,7 +149,7 @@ quick_image_in(FunctionCallInfo fcinfo, int argument)
 	hll_status	status;
 	Output		out;
 
-	if (LENGTH(image) < SLOW_IMAGE || (hll_image_stage(IMAGE(image)) == HLL_REGISTERS && named_width(IMAGE(image)) != 4))
+	if (LENGTH(image) < SLOW_IMAGE || (head_of(IMAGE(image)).stage == HLL_REGISTERS && named_width(IMAGE(image)) != 4))
 		return image;
 	WRITE_OUTPUT(out, CHANGED_ROOM(image), status, hll_image_convert(IMAGE(image), 8, OUTPUT(out)));
 	check_argument_status(status, argument);

@@ -78,7 +78,10 @@ extern bool is_empty_table(const uint8 *image, size_t size);
 extern void check_text(FunctionCallInfo fcinfo);
 extern void refuse_type(Oid type);
 
-/* What the header of an image says, before the image is read. If the bytes are not an image, it is any number in range. */
+/* What the header of an image and its counts say, before the image is read. */
+extern hll_head head_of(const uint8 *image, size_t size);
+
+/* The lg_k and the width of a head. If the header has a fault, it is any number in range. */
 extern uint8 named_lg_k(const uint8 *image, size_t size);
 extern uint8 named_width(const uint8 *image, size_t size);
 

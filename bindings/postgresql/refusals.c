@@ -48,26 +48,28 @@ bool
 is_empty_table(const uint8 *image, size_t size)
 {
 	static const uint8 places[32] = {0};
+	hll_head	head = head_of(image, size);
 
-	return size == 8 + sizeof(places) && (image[7] & 3) == HLL_LIST && (image[5] & 12) == 4 &&
+	return size == 8 + sizeof(places) && head.size == 8 && (head.flags & (HLL_EMPTY | HLL_COMPACT)) == HLL_EMPTY &&
 		memcmp(image + 8, places, sizeof(places)) == 0;
 }
 
-/* An image without its last byte is truncated, as its header shows. If it isn't, its last byte is not part of the image. */
+/* The head says how many bytes an image has. If its first bytes are no image, the call that reads it reports that. */
 void
 check_whole(const uint8 *image, size_t size, int argument)
 {
-	size_t		own;
+	hll_head	head = head_of(image, size);
+	size_t		own = head.size;
 	hll_status	status;
 
 	CHECK_FOR_INTERRUPTS();
-	if (hll_image_header_size(image, size) == size) /* the usual case, and faster */
+	if (head.fault != HLL_OK || head.size >= size || is_empty_table(image, size))
 		return;
-	status = size == 0 ? HLL_TRUNCATED : hll_image_size(image, size - 1, &own);
+	status = hll_image_check(image, own);
 	CHECK_FOR_INTERRUPTS();
 	if (status == HLL_MEMORY)
 		refuse(status, "");
-	if (status != HLL_OK || is_empty_table(image, size))
+	if (status != HLL_OK)
 		return;
 	ereport(ERROR,
 			(errcode(ERRCODE_INVALID_BINARY_REPRESENTATION),

@@ -88,25 +88,36 @@ bool bytes_in(sqlite3_context *context, sqlite3_value *value, hll_bytes *bytes)
     return true;
 }
 
+/* Returns what the header of an image and its counts say. */
+static hll_head head_of(hll_bytes image)
+{
+    hll_head head = {0};
+
+    (void)hll_image_head(image.bytes, image.len, &head, sizeof head);
+    return head;
+}
+
 bool is_empty_table(hll_bytes bytes)
 {
     static const uint8_t places[32] = {0};
+    hll_head head = head_of(bytes);
 
-    return bytes.len == 8 + sizeof places && (bytes.bytes[7] & 3) == HLL_LIST && (bytes.bytes[5] & 12) == 4 &&
+    return bytes.len == 8 + sizeof places && head.size == 8 && (head.flags & (HLL_EMPTY | HLL_COMPACT)) == HLL_EMPTY &&
            memcmp(bytes.bytes + 8, places, sizeof places) == 0;
 }
 
-/* If no byte follows an image, the image without its last byte is truncated, as its header shows. `own` is its length. */
+/* The head says how many bytes an image has: `own`. If its first bytes are no image, the call that reads it reports that. */
 static hll_status whole_status(hll_bytes image, size_t *own)
 {
+    hll_head head = head_of(image);
     hll_status status;
 
     *own = image.len;
-    if (hll_image_header_size(image.bytes, image.len) == image.len) /* the usual case, and faster */
+    if (head.fault != HLL_OK || head.size >= image.len || is_empty_table(image))
         return HLL_OK;
-    status = image.len == 0 ? HLL_TRUNCATED : hll_image_size(image.bytes, image.len - 1, own);
-    if (status != HLL_OK || is_empty_table(image))
-        *own = image.len;
+    status = hll_image_check(image.bytes, (size_t)head.size);
+    if (status == HLL_OK)
+        *own = (size_t)head.size;
     return status == HLL_MEMORY ? status : HLL_OK;
 }
 
@@ -182,9 +193,9 @@ bool deviations_in(sqlite3_context *context, sqlite3_value *value, int *deviatio
 
 uint8_t named_lg_k(hll_bytes image)
 {
-    uint8_t lg_k = hll_image_lg_k(image.bytes, image.len);
+    hll_head head = head_of(image);
 
-    return lg_k == 0 ? 4 : lg_k;
+    return head.lg_k == 0 ? 4 : head.lg_k;
 }
 
 /* ---- images that are written */

@@ -253,17 +253,26 @@ static void check_info(const held *h)
 static void check_size(const held *h)
 {
     size_t size = UNTOUCHED;
+    hll_head head, first;
+    begin();
+    CHECK(hll_image_head(h->at, h->len, &head, sizeof head) == HLL_OK, "hll_image_head");
     begin();
     (void)ended("hll_image_check", hll_image_check(h->at, h->len), h->reason);
     begin();
     if (ended("hll_image_size", hll_image_size(h->at, h->len, &size), h->reason)) {
         CHECK(size == h->size, "%zu in place of %zu", size, h->size);
-        CHECK(hll_image_header_size(h->at, h->len) == size, "%zu by the header", hll_image_header_size(h->at, h->len));
-        CHECK(hll_image_lg_k(h->at, h->len) == h->x.lg_k && hll_image_width(h->at, h->len) == h->x.width, "the header");
+        CHECK(head.size == size && head.fault == HLL_OK, "%zu by the head", (size_t)head.size);
+        CHECK(head.lg_k == h->x.lg_k && head.width == h->x.width, "the head");
     } else {
         CHECK(size == UNTOUCHED, "hll_image_size changed *size");
-        (void)hll_image_header_size(h->at, h->len);
+        CHECK(head.fault == HLL_OK || head.fault == h->reason, "%d by the head", head.fault);
+        CHECK((head.fault == HLL_OK && h->len < head.size) == (h->reason == HLL_TRUNCATED && head.size > 0),
+              "%zu by the head", (size_t)head.size);
     }
+    begin();
+    CHECK(hll_image_head(h->at, h->len < 40 ? h->len : 40, &first, sizeof first) == HLL_OK && first.size == head.size &&
+              first.fault == head.fault,
+          "%zu by the first 40 bytes", (size_t)first.size);
 }
 
 /* The HIP estimate, if the image keeps one. */
@@ -312,18 +321,6 @@ static void check_estimate(const held *h)
         check_estimation(&h->x, &found);
     else
         CHECK(is_pattern(&found, sizeof found), "hll_estimate changed *estimation");
-}
-
-/* Estimates of numbers of coupons that no image has. */
-static void check_many_coupons(uint64_t n)
-{
-    hll_estimation found;
-    int status = hll_coupons_estimate(n, &found), d;
-    CHECK(status == (n > (uint64_t)1 << 26 ? HLL_ARGUMENT : HLL_OK), "hll_coupons_estimate of %g: %d", (double)n, status);
-    for (d = 0; d < 3 && status == HLL_OK; d++)
-        CHECK((double)n <= found.lower[d] && found.lower[d] <= found.estimate && found.estimate <= found.upper[d],
-              "%g coupons: %g is not between %g and %g", (double)n, found.estimate, found.lower[d], found.upper[d]);
-    CHECK(hll_version() == HLL_VERSION_NUMBER, "the version is %u", hll_version());
 }
 
 /* Checks the status of a call that writes coupons, and the coupons: in the room that they need, and in less. */
@@ -643,20 +640,14 @@ static void check_registers(const char *call, world *w, int i, int is_changed, c
 static hll_status add_registers(world *w, int i, const record *r, const batch *b, int *wanted)
 {
     const uint32_t *coupons;
-    size_t n, j;
-    int32_t *offsets = (int32_t *)(void *)edge(EDGE_OUT, 4 * (b->n + 1));
+    size_t n;
     *wanted = b->is_argument ? HLL_ARGUMENT : HLL_OK;
-    offsets[0] = 0;
-    for (j = 0; j < b->n; j++)
-        offsets[j + 1] = (int32_t)b->ends[j];
-    if (r->c % 4 == 0)
+    if (r->c % 4 <= 1)
         return hll_registers_add(w->registers[i], w->counts[i], b->values, b->len, b->ends, b->n);
     if (r->c % 4 == 3) {
         *wanted = b->len % b->step == 0 ? HLL_OK : HLL_ARGUMENT;
         return hll_registers_add_fixed(w->registers[i], w->counts[i], b->values, b->len, b->step);
     }
-    if (r->c % 4 == 1)
-        return hll_registers_add_ends32(w->registers[i], w->counts[i], b->values, b->len, offsets, b->n + 1);
     *wanted = coupons_of(r, &coupons, &n) ? HLL_OK : HLL_ARGUMENT;
     return hll_registers_add_coupons(w->registers[i], w->counts[i], coupons, n);
 }
@@ -853,7 +844,7 @@ void on_image(world *w, const record *r)
     check_fields(h, CLEAR_FIELDS);
     check_add_coupon(h, (uint32_t)r->a << 18 | (uint32_t)r->b << 8 | r->c, r->c % 65);
     check_new(r->a % 32, r->b % 16);
-    check_many_coupons((uint64_t)r->a << 19 | (uint64_t)r->b << 11 | r->c);
+    CHECK(hll_version() == HLL_VERSION_NUMBER, "the version is %u", hll_version());
     check_merges(w, h, r);
     if (h->reason != 0 || !is_heavy(r, h->x.lg_k))
         check_histogram(h);

@@ -81,13 +81,17 @@ static int has_registers(const uint8_t *state)
     return state[0] == 0x42;
 }
 
-/* The bytes that are asked for if n coupons have no room in a state, header included. */
+/* The bytes that are asked for if n coupons have no room in a state, header included: enough for half as many again and eight
+ * more, but no more than the largest set needs, unless they become registers. */
 static size_t asked(const uint8_t *state, const plain_state *s, size_t n)
 {
-    size_t used = s->used + n;
+    unsigned lg_k = s->sketch.lg_k;
+    size_t used = s->used + n, half_more = used + used / 2 + 8, most = lg_k < 8 ? 7 : (size_t)3 << (lg_k - 5);
     if (has_registers(state))
         return bytes_for(s, 0);
-    return 40 + 4 * plain_elements_for(s->sketch.lg_k, used + used / 2 + 8);
+    if (used > most)
+        return 40 + 4 * plain_elements_for(lg_k, used);
+    return 40 + 4 * (half_more < most ? half_more : most);
 }
 
 /* Whether other code put a coupon without a value into a state. Then a call that reads it may return any result. */

@@ -95,13 +95,11 @@ static void show_registers(bytes coarse, bytes right)
 {
     static const uint8_t values[] = "one two three";
     static const size_t ends[] = {3, 7, 13};
-    static const int32_t offsets[] = {1, 4, 4, 12};
     uint8_t lg_k = 9;
     size_t size = 1;
     others[17] = 33;
     show("hll_registers_add", hll_registers_add(registers, 4096, values, 13, ends, 3), NULL, NULL, registers, sizeof registers);
-    show("hll_registers_add_fixed", hll_registers_add_fixed(registers, 4096, values, 12, 4), NULL, NULL, registers, sizeof registers);
-    show("hll_registers_add_ends32", hll_registers_add_ends32(registers, 2048, values, 13, offsets, 4), NULL, NULL, registers,
+    show("hll_registers_add_fixed", hll_registers_add_fixed(registers, 4096, values, 12, 4), NULL, NULL, registers,
          sizeof registers);
     show("hll_registers_merge", hll_registers_merge(registers, 4096, right.at, right.len, &lg_k), NULL, NULL, registers, sizeof registers);
     show("hll_registers_merge", hll_registers_merge(registers, 4096, coarse.at, coarse.len, &lg_k), NULL, NULL, &lg_k, 1);

@@ -44,20 +44,6 @@ static void test_messages(void)
     }
 }
 
-/* What a header says, for each byte that it may have, and where it is cut off. */
-static void test_headers(void)
-{
-    uint8_t image[8] = {2, 1, 7, 12, 3, 12, 0, 8};
-    unsigned byte;
-    for (byte = 0; byte < 256; byte++) {
-        image[3] = image[7] = (uint8_t)byte;
-        CHECK(hll_image_lg_k(image, 8) == (4 <= byte && byte <= 21 ? byte : 0), "lg_k %u", byte);
-        CHECK(hll_image_width(image, 8) == "\4\6\10\0"[byte / 4 % 4], "width %u", byte);
-        CHECK(hll_image_stage(image, 8) == "\0\1\2\0"[byte % 4], "stage %u", byte);
-        CHECK(hll_image_lg_k(image, 7) == 0 && hll_image_width(image, 7) == 0 && hll_image_stage(image, 7) == 0, "cut off");
-    }
-}
-
 /* The largest images: registers of which one is 0, and all others are exceptions where they have four bits. */
 static void test_room(void)
 {
@@ -73,15 +59,16 @@ static void test_room(void)
         }
 }
 
-/* Byte 3 and the number of bytes alone. */
+/* The number of bytes, and the lg_k of the header, if it has one. */
 static void test_is_small(void)
 {
-    static const uint8_t image[8] = {255, 255, 255, 12, 255, 255, 255, 255};
-    CHECK(hll_is_small(image, 8, 12, 8) && hll_is_small(image, 4, 12, 4), "at the bounds");
-    CHECK(hll_is_small(image, 8, 21, 8192), "within them");
+    static const uint8_t image[8] = {2, 1, 7, 12, 3, 255, 255, 8}, other[8] = {2, 1, 6, 12, 3, 12, 0, 8};
+    CHECK(hll_is_small(image, 8, 12, 8) && hll_is_small(image, 8, 21, 8192), "within the bounds");
     CHECK(!hll_is_small(image, 8, 11, 8) && !hll_is_small(image, 8, 12, 7), "above one");
     CHECK(hll_is_small(image, 8, 268, 8), "a bound of more than a byte");
-    CHECK(!hll_is_small(image, 3, 12, 8) && !hll_is_small(NULL, 0, 12, 8), "too short to tell");
+    CHECK(hll_is_small(other, 8, 11, 8) && hll_is_small(image, 7, 11, 8) && hll_is_small(NULL, 0, 4, 0),
+          "rejected at once");
+    CHECK(!hll_is_small(other, 8, 11, 7), "too many bytes");
 }
 
 /* Each call refuses each faulty image for its reason, and leaves its output as it was. */
@@ -278,9 +265,6 @@ static void test_other_ends(void)
         CHECK(hll_registers_add(others, 64, values, length * n, ends, n) == HLL_OK, "ends, %d", (int)length);
         CHECK(hll_registers_add_fixed(registers, 64, values, length * n, length) == HLL_OK, "length %d", (int)length);
         CHECK(memcmp(registers, others, 64) == 0, "registers of length %d", (int)length);
-        memset(registers, 0, 64);
-        CHECK(hll_registers_add_ends32(registers, 64, values, length * n, offsets, n + 1) == HLL_OK, "offsets");
-        CHECK(memcmp(registers, others, 64) == 0, "registers by offsets, %d", (int)length);
     }
 }
 
@@ -294,10 +278,8 @@ static void test_wrong_ends(void)
     uint8_t values[8] = {1, 2, 3, 4, 5, 6, 7, 8}, registers[16] = {0}, before[16] = {0};
     uint32_t coupons[4] = {9, 9, 9, 9};
     size_t i;
-    for (i = 0; i < sizeof wrong / sizeof wrong[0]; i++) {
+    for (i = 0; i < sizeof wrong / sizeof wrong[0]; i++)
         CHECK(hll_coupons_ends32(values, 8, wrong[i].offsets, wrong[i].n, coupons, 4) == HLL_ARGUMENT, "%d", (int)i);
-        CHECK(hll_registers_add_ends32(registers, 16, values, 8, wrong[i].offsets, wrong[i].n) == HLL_ARGUMENT, "%d", (int)i);
-    }
     for (i = 0; i < 10; i++) {
         int divides = i == 1 || i == 2 || i == 4 || i == 8;
         CHECK(hll_coupons_fixed(values, 8, i, coupons, 0) == (divides ? HLL_BUFFER : HLL_ARGUMENT), "length %d", (int)i);
@@ -306,11 +288,9 @@ static void test_wrong_ends(void)
     }
     CHECK(hll_coupons_fixed(values, 8, SIZE_MAX, coupons, 4) == HLL_ARGUMENT, "the greatest length");
     CHECK(hll_registers_add_fixed(registers, 15, values, 8, 8) == HLL_ARGUMENT, "fifteen registers");
-    CHECK(hll_registers_add_ends32(registers, 15, values, 8, inner, 3) == HLL_ARGUMENT, "fifteen registers");
     CHECK(hll_coupons_fixed(NULL, 0, 8, NULL, 0) == HLL_OK, "no values");
     CHECK(hll_registers_add_fixed(registers, 16, NULL, 0, 8) == HLL_OK, "no values");
     CHECK(hll_coupons_ends32(values, 8, none, 1, NULL, 0) == HLL_OK, "one offset, no values");
-    CHECK(hll_registers_add_ends32(registers, 16, values, 8, none, 1) == HLL_OK, "one offset, no values");
     CHECK(memcmp(registers, before, 16) == 0 && coupons[0] == 9 && coupons[3] == 9, "nothing is written");
     CHECK(hll_coupons_ends32(values, 8, inner, 3, coupons, 4) == HLL_OK, "offsets that begin inside");
     CHECK(coupons[0] == hll_coupon(NULL, 0) && coupons[1] == hll_coupon(values + 3, 2) && coupons[2] == 9, "their values");
@@ -643,36 +623,6 @@ static void test_sizes(void)
         }
 }
 
-/* The size in the header is that of the image, or 0: of images whose bytes are changed, as far as they are images still. */
-static void test_sizes_in_headers(void)
-{
-    static const uint8_t changed[] = {4, 5, 5, 6, 7, 8, 9, 32, 36, 37};
-    uint64_t random = 11;
-    size_t stage, size, known = 0, images = 0;
-    unsigned width;
-    int turn;
-    for (stage = 0; stage < 3; stage++)
-        for (width = 4; width <= 8; width += 2)
-            for (turn = 0; turn < 3000; turn++) {
-                uint64_t word = random_word(&random);
-                bytes image = image_of_values(12, (uint8_t)width, 0, values_of_stage[stage]);
-                uint8_t at = changed[word % sizeof changed];
-                size_t found;
-                if (turn > 0 && at < image.len)
-                    image.at[at] ^= (uint8_t)(1 << (word >> 32) % 8);
-                found = hll_image_header_size(image.at, image.len);
-                if (hll_image_size(image.at, image.len, &size) == HLL_OK) {
-                    CHECK(found == 0 || found == size, "%zu, and not %zu", found, size);
-                    CHECK(turn > 0 || found == size, "an image of the library: %zu, and not %zu", found, size);
-                    known += found != 0;
-                    images++;
-                }
-                CHECK(hll_image_header_size(image.at, 7) == 0, "cut off");
-                free(image.at);
-            }
-    CHECK(known > 10000 && images < 27000, "%zu sizes of %zu images", known, images);
-}
-
 /* A caller that was compiled for another hll_info is told so, and nothing is written. */
 static void test_other_info(void)
 {
@@ -907,7 +857,6 @@ int main(void)
 {
     test_reasons();
     test_messages();
-    test_headers();
     test_room();
     test_is_small();
     test_faulty_images();
@@ -930,7 +879,6 @@ int main(void)
     test_agreement();
     test_agreement_by_blocks();
     test_sizes();
-    test_sizes_in_headers();
     test_other_info();
     test_null();
     test_unions_with_a_great_register();

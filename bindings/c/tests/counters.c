@@ -149,8 +149,7 @@ static size_t any_image(uint8_t *out, unsigned lg_k, unsigned width)
     need(hll_image_new(lg_k, width, empty, sizeof empty, &len) == HLL_OK, "new");
     fill(n, 1u << (4 + pick(14)));
     need(hll_image_add(empty, len, values, 8 * n, ends, n, out, MOST, &len) == HLL_OK, "add");
-    if (hll_image_stage(out, len) == HLL_REGISTERS &&
-        pick(2) == 0) { /* as another program writes it, with a HIP estimate */
+    if (head_of(out, len).stage == HLL_REGISTERS && pick(2) == 0) { /* as another program writes it, with a HIP estimate */
         double hip = (double)n;
         out[5] &= (uint8_t)~16;
         memcpy(out + 8, &hip, 8);

@@ -37,22 +37,20 @@ static void check_order(const hll_estimation *found, const char *what)
     CHECK(found->upper[0] <= found->upper[1] && found->upper[1] <= found->upper[2], "%s: upper bounds", what);
 }
 
-/* What is estimated from the histogram of registers, or from the number of coupons alone, is that of the image. */
+/* What is estimated from the histogram of registers is that of the image. */
 static void check_parts(const bytes *image, const hll_info *info, const hll_estimation *wanted)
 {
     hll_estimation found;
     hll_histogram histogram;
     memset(&found, 0, sizeof found);
-    if (info->stage == HLL_REGISTERS) {
-        CHECK(hll_image_histogram(image->at, image->len, &histogram) == HLL_OK, "histogram");
-        CHECK(hll_histogram_estimate(&histogram, &found) == HLL_OK, "from a histogram");
-    } else {
-        CHECK(hll_coupons_estimate(info->coupons, &found) == HLL_OK, "from a number of coupons");
-    }
+    if (info->stage != HLL_REGISTERS)
+        return;
+    CHECK(hll_image_histogram(image->at, image->len, &histogram) == HLL_OK, "histogram");
+    CHECK(hll_histogram_estimate(&histogram, &found) == HLL_OK, "from a histogram");
     CHECK(memcmp(&found, wanted, sizeof found) == 0, "stage %d: %g for %g", info->stage, found.estimate, wanted->estimate);
 }
 
-/* Histograms of another number of registers are refused, however large their counts are; and so are more coupons than slots. */
+/* Histograms of another number of registers are refused, however large their counts are. */
 static void test_other_histograms(void)
 {
     hll_histogram histogram;
@@ -81,8 +79,6 @@ static void test_other_histograms(void)
     histogram.counts[0] = 16;
     histogram.counts[1] = UINT64_MAX - 1;
     CHECK(hll_histogram_estimate(&histogram, &found) == HLL_ARGUMENT, "counts whose sum would wrap around");
-    CHECK(hll_coupons_estimate(((uint64_t)1 << 26) + 1, &found) == HLL_ARGUMENT, "more coupons than slots");
-    CHECK(hll_coupons_estimate(UINT64_MAX, &found) == HLL_ARGUMENT, "the greatest number of coupons");
     CHECK(memcmp(&found, &before, sizeof found) == 0, "a refusal writes nothing");
 }
 
@@ -97,54 +93,6 @@ static void test_corrected(void)
     histogram.counts[1] = 16;
     CHECK(hll_histogram_estimate(&histogram, &found) == HLL_OK && fabs(found.estimate - 21.6235322288) < 1e-8, "%.17g of sixteen",
           found.estimate);
-}
-
-/* Numbers of coupons up to the greatest: each more than the one before, and between bounds that are. */
-static void test_many_coupons(void)
-{
-    hll_estimation found, before;
-    uint64_t n;
-    CHECK(hll_coupons_estimate(0, &before) == HLL_OK && before.estimate == 0, "no coupons");
-    for (n = 1; n <= (uint64_t)1 << 26; n += n / 7 + 1) {
-        CHECK(hll_coupons_estimate(n, &found) == HLL_OK, "%d coupons", (int)n);
-        check_order(&found, "many coupons");
-        CHECK(found.estimate > before.estimate && found.estimate >= (double)n, "%d coupons: %g", (int)n, found.estimate);
-        CHECK(found.relative_standard_error < 1e-4, "%d coupons: %g", (int)n, found.relative_standard_error);
-        before = found;
-    }
-    CHECK(hll_coupons_estimate((uint64_t)1 << 26, &found) == HLL_OK, "as many as slots");
-    CHECK(found.estimate > 1.2 * 67108864 && found.estimate < 1.3 * 67108864, "%g of 2^26", found.estimate);
-}
-
-/* Returns the number of values that are expected to have n coupons, by the formula of docs/NUMBERS.md: sixteen steps, whether or not
- * they change anything. */
-static double after_sixteen_steps(double coupons)
-{
-    double values = coupons;
-    int step, j;
-    for (step = 0; step < 16; step++) {
-        double sum = values, term = values, power = 2.0;
-        for (j = 2; j <= 8; j++) {
-            power += power;
-            term *= -(values - (double)(j - 1)) / (double)j / 67108864.0;
-            sum += term / (power - 1.0);
-        }
-        values += coupons - sum;
-    }
-    return values;
-}
-
-/* The library stops at the first step that changes nothing: the double is that of all steps. Each number to 3,000 is tried, and then
- * every stride-th to 300,000, as the bounds of many coupons take long. */
-static void test_steps(uint64_t stride)
-{
-    hll_estimation found;
-    uint64_t n;
-    for (n = 0; n <= 300000; n += n < 3000 ? 1 : stride) {
-        double all = after_sixteen_steps((double)n), wanted = all < (double)n ? (double)n : all;
-        CHECK(hll_coupons_estimate(n, &found) == HLL_OK && found.estimate == wanted, "%d coupons: %.17g, not %.17g", (int)n,
-              found.estimate, wanted);
-    }
 }
 
 /* Streams of n values: within four deviations of n, and for coupons within a thousandth. */
@@ -265,6 +213,70 @@ static bytes image_of_coupons(const struct coupons_row *row)
     return image;
 }
 
+/* Estimates from an image of n coupons. */
+static hll_status estimate_coupons(uint32_t n, hll_estimation *found)
+{
+    struct coupons_row row = {21, 0, {0, 0, {0, 0, 0}, {0, 0, 0}}};
+    hll_status status;
+    bytes image;
+    row.count = n;
+    image = image_of_coupons(&row);
+    status = hll_estimate(image.at, image.len, found);
+    free(image.at);
+    return status;
+}
+
+/* The greatest number of coupons that an image can have. */
+#define MOST_COUPONS ((1 << 18) - 1)
+
+/* Numbers of coupons up to the greatest: each more than the one before, and between bounds that are. */
+static void test_many_coupons(void)
+{
+    hll_estimation found, before;
+    uint32_t n;
+    CHECK(estimate_coupons(0, &before) == HLL_OK && before.estimate == 0, "no coupons");
+    for (n = 1; n <= MOST_COUPONS; n += n / 7 + 1) {
+        CHECK(estimate_coupons(n, &found) == HLL_OK, "%d coupons", (int)n);
+        check_order(&found, "many coupons");
+        CHECK(found.estimate > before.estimate && found.estimate >= (double)n, "%d coupons: %g", (int)n, found.estimate);
+        CHECK(found.relative_standard_error < 1e-4, "%d coupons: %g", (int)n, found.relative_standard_error);
+        before = found;
+    }
+    CHECK(estimate_coupons(MOST_COUPONS, &found) == HLL_OK, "the most coupons");
+    CHECK(found.estimate > 1.0006 * MOST_COUPONS && found.estimate < 1.0007 * MOST_COUPONS, "%g of 2^18", found.estimate);
+}
+
+/* Returns the number of values that are expected to have n coupons, by the formula of docs/NUMBERS.md: sixteen steps, whether or not
+ * they change anything. */
+static double after_sixteen_steps(double coupons)
+{
+    double values = coupons;
+    int step, j;
+    for (step = 0; step < 16; step++) {
+        double sum = values, term = values, power = 2.0;
+        for (j = 2; j <= 8; j++) {
+            power += power;
+            term *= -(values - (double)(j - 1)) / (double)j / 67108864.0;
+            sum += term / (power - 1.0);
+        }
+        values += coupons - sum;
+    }
+    return values;
+}
+
+/* The library stops at the first step that changes nothing: the double is that of all steps. Each number to 3,000 is tried, and then
+ * every stride-th, as the bounds of many coupons take long. */
+static void test_steps(uint32_t stride)
+{
+    hll_estimation found;
+    uint32_t n;
+    for (n = 0; n <= MOST_COUPONS; n += n < 3000 ? 1 : stride) {
+        double all = after_sixteen_steps((double)n), wanted = all < (double)n ? (double)n : all;
+        CHECK(estimate_coupons(n, &found) == HLL_OK && found.estimate == wanted, "%d coupons: %.17g, not %.17g", (int)n,
+              found.estimate, wanted);
+    }
+}
+
 static void test_numbers(void)
 {
     size_t i;
@@ -351,7 +363,7 @@ int main(int argc, char **argv)
     test_other_histograms();
     test_corrected();
     test_many_coupons();
-    test_steps((uint64_t)stride);
+    test_steps((uint32_t)stride);
     test_widths();
     test_numbers();
     test_refusals();

@@ -200,8 +200,6 @@ static void run_registers(bytes image)
     note("registers_merge", status, registers, count), note("coarser", 0, &coarser, 1);
     note("registers_add", hll_registers_add(registers, count, (uint8_t *)values, 512, ends, 64), registers, count);
     note("registers_add_fixed", hll_registers_add_fixed(registers, count, (uint8_t *)values, 512, 8), registers, count);
-    note("registers_add_ends32", hll_registers_add_ends32(others, count, (uint8_t *)values, 512, offsets, 65), others,
-         count);
     note("coupons", hll_coupons((uint8_t *)values, 512, ends, 64, coupons, 64), coupons, sizeof coupons);
     note("registers_add_coupons", hll_registers_add_coupons(others, count, coupons, 64), others, count);
     note("coupons_fixed", hll_coupons_fixed((uint8_t *)values, 512, 8, coupons, 64), coupons, sizeof coupons);

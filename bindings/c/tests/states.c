@@ -158,7 +158,7 @@ static void expect_union(pair *p, unsigned lg_max_k, bytes own, bytes other)
                          &failed) == HLL_OK,
          "hll_image_merge for a test");
     take_image(p, merged);
-    p->lg_k = hll_image_lg_k(merged.at, merged.len);
+    p->lg_k = head_of(merged.at, merged.len).lg_k;
 }
 
 static int is_empty(bytes image)
@@ -186,7 +186,7 @@ static hll_status call_join(pair *p, unsigned lg_max_k, joinable *other, size_t 
 /* Joins, in more room where the state asks for it, which it does once; what is not joined changes nothing. */
 static void join(pair *p, unsigned lg_max_k, joinable *other)
 {
-    uint8_t lg_k = hll_image_lg_k(other->image.at, other->image.len), most = p->lg_k < lg_k ? lg_k : p->lg_k;
+    uint8_t lg_k = head_of(other->image.at, other->image.len).lg_k, most = p->lg_k < lg_k ? lg_k : p->lg_k;
     int differ = lg_max_k == 0 && p->lg_k != lg_k && !is_empty(other->image), refused = differ && !is_empty(p->image);
     int rises = lg_max_k == 0 && p->lg_k < lg_k && is_empty(p->image);
     size_t size = 77;
@@ -255,11 +255,11 @@ static void walk_of_joins(uint64_t *random, uint8_t most_lg_k)
         uint64_t word = random_word(random);
         joinable other = some_joinable(random, most_lg_k);
         hll_state_summary summary;
-        uint8_t lg_k = p.lg_k, width = hll_image_width(other.image.at, other.image.len);
+        uint8_t lg_k = p.lg_k, width = head_of(other.image.at, other.image.len).width;
         int joins;
         if (word % 4 == 0)
             add(&p, word >> 32, 1 + (word >> 8) % 50, (word >> 16) % 60, (int)(word % 3));
-        joins = bounded || lg_k == hll_image_lg_k(other.image.at, other.image.len) || is_empty(p.image);
+        joins = bounded || lg_k == head_of(other.image.at, other.image.len).lg_k || is_empty(p.image);
         widths = widths_after(widths, 1u << (width / 2 - 2), is_empty(p.image), is_empty(other.image) || !joins);
         join(&p, bounded ? lg_k + (unsigned)(word >> 20) % (22u - lg_k) : 0, &other);
         width = widths == 1 ? 4 : widths == 2 ? 6 : 8;
@@ -268,7 +268,7 @@ static void walk_of_joins(uint64_t *random, uint8_t most_lg_k)
         CHECK(summary.lg_k == p.lg_k, "lg_k %d: %d", p.lg_k, summary.lg_k);
         CHECK(summary.is_empty == is_empty(p.image) && !summary.is_open, "lg_k %d: empty %d", p.lg_k, summary.is_empty);
         if (other.state != NULL) {
-            pair q = {other.state, other.room, other.image, hll_image_lg_k(other.image.at, other.image.len)};
+            pair q = {other.state, other.room, other.image, head_of(other.image.at, other.image.len).lg_k};
             CHECK(gives(&q, 8), "lg_k %d: a joined state changed", q.lg_k);
         }
         free(other.state);

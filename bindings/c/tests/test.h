@@ -53,6 +53,14 @@ static inline bytes with_room(size_t len)
     return made;
 }
 
+/* The head of an image. */
+static inline hll_head head_of(const uint8_t *image, size_t len)
+{
+    hll_head head;
+    need(hll_image_head(image, len, &head, sizeof head) == HLL_OK, "a head");
+    return head;
+}
+
 static inline int digit(char c)
 {
     static const char digits[] = "0123456789abcdefABCDEF";

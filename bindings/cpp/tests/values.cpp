@@ -148,11 +148,11 @@ static void test_images()
 // The updatable form of an image, which other programs write: all buckets, and the coupons in the first of them.
 static image_bytes updatable(image_bytes image)
 {
-    const uint8_t stage = hll_image_stage(image.data(), image.size());
-    if (stage == HLL_REGISTERS || (image[5] & 4) != 0)
+    const hll_head head = hll::detail::head_of(image.data(), image.size());
+    if (head.stage == HLL_REGISTERS || (head.flags & HLL_EMPTY) != 0)
         return image;
     image[5] = static_cast<uint8_t>(image[5] & ~8);
-    image.resize(stage == HLL_LIST ? 40 : 12 + (size_t(4) << image[4]));
+    image.resize(head.stage == HLL_LIST ? 40 : 12 + (size_t(4) << image[4]));
     return image;
 }
 
@@ -168,7 +168,7 @@ static void test_streams()
                 for (int i = 0; i < n; i++)
                     one.update(i);
                 const image_bytes image = is_compact ? one.serialize() : updatable(one.serialize());
-                CHECK(hll_image_header_size(image.data(), image.size()) == image.size());
+                CHECK(hll::detail::head_of(image.data(), image.size()).size == image.size());
                 stream.write(reinterpret_cast<const char *>(image.data()), static_cast<std::streamsize>(image.size()));
                 written.push_back(one);
             }
@@ -201,9 +201,34 @@ static void test_broken_streams()
     }
     std::istringstream none(std::string(100, 'x'));
     CHECK(throws<hll::image_error>([&] { sketch::deserialize(none); }, "family"));
-    std::string huge("\2\1\7\14\3\10\377\0", 8); // a list that announces 255 coupons
-    std::istringstream short_of_it(huge);
-    CHECK(throws<hll::image_error>([&] { sketch::deserialize(short_of_it); }, "truncated"));
+}
+
+// From a stream an image is what it is from bytes: exceptions in a large table, which is legal, and heads with faults, after
+// which nothing is read.
+static void test_heads_of_streams()
+{
+    image_bytes image(48 + (size_t(4) << 22));
+    image[0] = 10, image[1] = 1, image[2] = 7, image[3] = 4, image[4] = 22, image[7] = 2;
+    image[32] = 15, image[36] = 1, image[40] = 15, image[51] = 20 << 2; // slot 0 is 20, in the first of 2^22 buckets
+    std::stringstream stream(std::string(image.begin(), image.end()));
+    CHECK(sketch::deserialize(stream) == sketch::deserialize(image));
+    image[4] = 27;
+    const image_bytes heads[] = {image_bytes(image.begin(), image.begin() + 40),
+                                 {2, 1, 7, 12, 3, 8, 255, 0},
+                                 {3, 1, 7, 12, 9, 8, 0, 9, 255, 255, 255, 255}};
+    const hll_status statuses[] = {HLL_LG_ARR, HLL_COUNT, HLL_COUNT};
+    for (size_t i = 0; i < 3; i++) {
+        std::stringstream with_more(std::string(heads[i].begin(), heads[i].end()) + "more");
+        std::string rest;
+        try {
+            sketch::deserialize(with_more);
+            CHECK(false);
+        } catch (const hll::image_error &error) {
+            CHECK(error.status() == statuses[i]);
+        }
+        with_more >> rest;
+        CHECK(rest == "more");
+    }
 }
 
 // What isn't used can be freed.
@@ -349,6 +374,7 @@ int main()
     test_lists();
     test_images();
     test_streams();
+    test_heads_of_streams();
     test_broken_streams();
     test_memory();
     test_arguments();

@@ -30,7 +30,8 @@ struct pair {
     void expect_same() const
     {
         CHECK(made.serialize() == image);
-        CHECK(made.lg_k() == image[3] && hll::bits_of(made.width()) == hll_image_width(image.data(), image.size()));
+        CHECK(made.lg_k() == image[3] &&
+              hll::bits_of(made.width()) == hll::detail::head_of(image.data(), image.size()).width);
         const hll_estimation wanted = plain_estimation(image);
         CHECK(same_estimation(made.estimation(), wanted) && made.estimate() == wanted.estimate);
         const unsigned deviations = 1 + below(3);
@@ -335,7 +336,7 @@ static void test_attackers(unsigned times)
     const image_bytes large = sketch(21).serialize();
     CHECK(hll::is_small(images[0].data(), images[0].size()) && !hll::is_small(large.data(), large.size()));
     CHECK(hll::is_small(large.data(), large.size(), 21) && !hll::is_small(large.data(), large.size(), 21, 7));
-    CHECK(!hll::is_small(nullptr, 0));
+    CHECK(hll::is_small(nullptr, 0)); // quick to reject
 }
 
 int main(int argc, char **argv)

@@ -1,10 +1,10 @@
 // What is computed of images: in the page, or in a Worker for large images. `hll` has the functions of core.mjs.
 
 /** Returns where an image that is rejected has its fault: `at` is the offset of the first byte, and `says` a few words. */
-function faultPlace(bytes, reason) {
+function faultPlace(hll, bytes, reason) {
   const place = (at, says) => ({ at, says });
   const u32 = (at) => (bytes[at] | bytes[at + 1] << 8 | bytes[at + 2] << 16 | bytes[at + 3] << 24) >>> 0;
-  const stage = bytes[7] & 3, lgK = bytes[3], isCompact = (bytes[5] & 8) !== 0;
+  const { stage, lgK, width, flags, minimum, size } = hll.headOf(bytes), isCompact = (flags & 8) !== 0;
   switch (reason) {
     case "truncated": return place(bytes.length, "the first byte that is missing");
     case "preamble": return place(0, "the size of the preamble");
@@ -13,7 +13,7 @@ function faultPlace(bytes, reason) {
     case "lgk": return place(3, "lg_k");
     case "lgarr": return place(4, "the logarithm of the size of the table");
     case "width": case "stage": return place(7, "the byte of the stage and the width");
-    case "count": return stage === 0 ? place(6, "the count") : stage === 1 ? place(8, "the count") : place(u32(32) > 2 ** lgK ? 32 : 36, "a count");
+    case "count": return { list: place(6, "the count"), set: place(8, "the count"), registers: place(u32(32) > 2 ** lgK ? 32 : 36, "a count") }[stage];
     case "coupon": return couponPlace();
     case "register": return registerPlace();
   }
@@ -21,30 +21,29 @@ function faultPlace(bytes, reason) {
 
   /** Returns the offset of the first coupon of a table, and how many there may be. */
   function table() {
-    if (stage === 0) return [8, isCompact ? bytes[6] : 8];
-    if (stage === 1) return [12, isCompact ? u32(8) : 2 ** bytes[4]];
-    return [40 + 2 ** lgK / 2, isCompact ? u32(36) : 2 ** bytes[4]];
+    const first = { list: 8, set: 12, registers: 40 + 2 ** lgK / 2 }[stage];
+    return [first, (size - first) / 4];
   }
 
   function couponPlace() {
     const [first, count] = table(), seen = new Set();
     for (let i = 0; i < count; i++) {
-      const at = first + 4 * i, coupon = u32(at), key = stage === 2 ? coupon % 2 ** lgK : coupon;
+      const at = first + 4 * i, coupon = u32(at), key = stage === "registers" ? coupon % 2 ** lgK : coupon;
       if (coupon === 0 && !isCompact) continue;
       if (coupon >>> 26 === 0) return place(at, "a coupon of value 0");
-      if (seen.has(key)) return place(at, stage === 2 ? "an exception whose slot has one already" : "a coupon that comes twice");
+      if (seen.has(key)) return place(at, stage === "registers" ? "an exception whose slot has one already" : "a coupon that comes twice");
       seen.add(key);
     }
     return null;
   }
 
   function registerPlace() {
-    if ((bytes[7] >> 2 & 3) === 2) {
+    if (width === 8) {
       const at = bytes.subarray(40, 40 + 2 ** lgK).findIndex((value) => value > 63);
       return at < 0 ? null : place(40 + at, `the register of slot ${at} is ${bytes[40 + at]}`);
     }
-    const [first, count] = table(), minimum = bytes[6], exceptions = new Map();
-    for (let i = 0; i < (u32(36) === 0 ? 0 : count); i++)
+    const [first, count] = table(), exceptions = new Map();
+    for (let i = 0; i < count; i++)
       if (u32(first + 4 * i) !== 0) exceptions.set(u32(first + 4 * i) % 2 ** lgK, first + 4 * i);
     for (let slot = 0; slot < 2 ** lgK; slot++) {
       const at = 40 + (slot >> 1), nibble = slot & 1 ? bytes[at] >> 4 : bytes[at] & 15;
@@ -60,7 +59,7 @@ function faultPlace(bytes, reason) {
 /** Reads an image: what its card shows. */
 function studyOf(hll, bytes) {
   const reason = hll.fault(bytes);
-  if (reason !== null) return { reason, message: MESSAGES[REASONS.indexOf(reason)], place: faultPlace(bytes, reason) };
+  if (reason !== null) return { reason, message: MESSAGES[REASONS.indexOf(reason)], place: faultPlace(hll, bytes, reason) };
   const sketch = hll.Sketch.fromBytes(bytes);
   return { info: hll.infoOf(bytes), size: hll.sizeOf(bytes), found: sketch.estimation(), counts: hll.histogramOf(bytes), hip: hll.hipOf(bytes) };
 }

@@ -3,7 +3,7 @@
 import assert from "node:assert/strict";
 import fs from "node:fs";
 import test from "node:test";
-import { HllError, MESSAGES, REASONS, Real, Registers, Sketch, TrapError, Union, agree, couponOf, fault, histogramOf, hipOf, infoOf, isSmall, load, sizeOf, version } from "../build/hll-sketches/hll.mjs";
+import { HllError, MESSAGES, REASONS, Real, Registers, Sketch, TrapError, Union, agree, couponOf, fault, headOf, histogramOf, hipOf, infoOf, isSmall, load, sizeOf, version } from "../build/hll-sketches/hll.mjs";
 import { make } from "../build/hll-sketches/core.mjs";
 const expected = JSON.parse(fs.readFileSync(process.argv[2]));
 const wasm = fs.readFileSync(new URL("../build/hll-sketches/hll.wasm", import.meta.url));
@@ -245,9 +245,20 @@ test("an empty image that is read, and values after it", () => {
   assert.equal(new Union().add(empty).lgK, 9);
 });
 
+test("heads, of whole images and of their first bytes", () => {
+  const image = new Sketch(12, 6).addMany(Array.from({ length: 9000 }, (_, i) => i)).toBytes();
+  const head = { size: image.length, count: 0, lgK: 12, width: 6, stage: "registers", flags: 16, minimum: 0, fault: null };
+  assert.deepEqual([headOf(image), headOf(image.subarray(0, 40))], [head, head]);
+  assert.deepEqual(headOf(image.subarray(0, 39)), { ...head, size: 0, fault: "truncated" });
+  assert.deepEqual(headOf(of("02010a")), { size: 0, count: 0, lgK: 0, width: 0, stage: "list", flags: 0, minimum: 0, fault: "truncated" });
+  assert.equal(headOf(of("0201060a030c0008")).fault, "family");
+  const table = headOf(of("0a010704 1a000002 000000000000000000000000000000000000000000000000 0f000000 01000000".replace(/ /g, "")));
+  assert.deepEqual([table.size, table.count, table.fault], [48 + 4 * 2 ** 26, 1, null]);
+});
+
 test("small images, and what was freed", () => {
   const image = new Sketch(12).addMany(Array.from({ length: 9000 }, (_, i) => i)).toBytes();
-  assert.deepEqual([isSmall(image), isSmall(image, { maxLgK: 11 }), isSmall(image, { maxBytes: 4000 }), isSmall(of("0201"))], [true, false, false, false]);
+  assert.deepEqual([isSmall(image), isSmall(image, { maxLgK: 11 }), isSmall(image, { maxBytes: 4000 }), isSmall(of("0201"))], [true, false, false, true]);
   const s = new Sketch(12).add(1), u = new Union().add(s);
   s.free();
   s.free();

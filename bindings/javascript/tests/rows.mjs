@@ -1,8 +1,8 @@
 // SPDX-License-Identifier: Apache-2.0
 // Carries out the rows of files (docs/PLAN.md, "Rows") by the module's calls, as bindings/c/tests/rows.c does.
 import fs from "node:fs";
+import { REASONS } from "../core.mjs";
 import { open } from "./raw.mjs";
-const REASONS = ["ok", "truncated", "family", "version", "lgk", "width", "stage", "preamble", "lgarr", "count", "coupon", "register", "argument", "memory", "buffer", "coarser", "other_lg_k"];
 const [, , module, ...files] = process.argv, ROOM = 40 + (5 << 21);
 const raw = await open(module);
 const hex = (text) => (text.length % 2 === 0 && /^[0-9a-f]*$/i.test(text) ? Buffer.from(text, "hex") : null);

@@ -29,9 +29,10 @@ static inline bool looks_ascending(const uint8 *image, size_t size)
 
 static inline void looks_read(const uint8 *image, size_t size)
 {
-	bool		is_set = hll_image_stage(image, size) == HLL_SET;
+	hll_head	head;
 
-	if (size >= SLOW && (is_set ? !looks_ascending(image, size) : hll_image_width(image, size) == 4))
+	(void) hll_image_head(image, size, &head, sizeof head);
+	if (size >= SLOW && (head.stage == HLL_SET ? !looks_ascending(image, size) : head.width == 4))
 		elog(NOTICE, "image of %d", MyProcPid);
 }
 

@@ -11,8 +11,9 @@ merged into the sketch of all their values.
     >>> round(union_of([monday, tuesday]).estimate())
     4
 
-The calls of the C library that read, make and merge sketches are proved correct, and so are its
-estimates from registers. Bounds, estimates from coupons, and this package itself are tested.
+Proved calls of the C library hash and add values, read, merge and write images, and estimate from
+registers. The counter that holds a sketch between these calls (its memory, waiting values, copies),
+bounds, and estimates of few values are plain C: tested, not proved. This package is tested, too.
 """
 from ._errors import ArgumentError, FilesError, HllError, ImageError, PrecisionError
 from ._library import processor

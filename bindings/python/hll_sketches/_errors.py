@@ -6,9 +6,10 @@ from typing import Any, List, Optional, Tuple
 
 from ._names import shown
 
+# scripts/calls.py writes what follows, from bindings/c/hll.h
 _MEANINGS = {
     "truncated": "the bytes end inside what the header asks for",
-    "family": "the family byte is not 7, so this is no HLL sketch",
+    "family": "the family byte is not 7",
     "version": "the serial version is not 1",
     "lgk": "the lg_k byte is outside 4 to 21",
     "width": "the width bits are 3",
@@ -16,9 +17,10 @@ _MEANINGS = {
     "preamble": "the preamble size does not fit the stage",
     "lgarr": "the size of a table is outside its range",
     "count": "a count is above its bound, or not the number of filled buckets",
-    "coupon": "a coupon has the value 0, or comes twice",
+    "coupon": "a coupon has the value 0 where a coupon is needed, or comes twice",
     "register": "a register is above 63, or nibbles and exceptions do not agree",
 }
+# end of what scripts/calls.py writes
 
 
 def explained(reason: str) -> str:

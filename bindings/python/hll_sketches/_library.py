@@ -19,7 +19,7 @@ from ctypes import c_uint, c_uint8, c_uint32, c_uint64
 from itertools import accumulate
 from operator import index
 from typing import TYPE_CHECKING, Callable, Dict, Iterable, List, Optional, Sequence, SupportsIndex
-from typing import Type, TypeVar, cast
+from typing import Tuple, Type, TypeVar, cast
 
 from ._errors import ArgumentError, ImageError
 from ._locks import loading
@@ -33,30 +33,36 @@ else:
     Numbers = array
     Memory = ctypes.Array
 
-WORDS = (
-    "ok",
-    "truncated",
-    "family",
-    "version",
-    "lgk",
-    "width",
-    "stage",
-    "preamble",
-    "lgarr",
-    "count",
-    "coupon",
-    "register",
-    "argument",
-    "memory",
-    "buffer",
-    "coarser",
-    "other lg_k",
-)
 OK, REGISTER, ARGUMENT, MEMORY, BUFFER, COARSER, OTHER_LG_K = 0, 11, 12, 13, 14, 15, 16
 MOST_KEPT = 1 << 22
 """A thread keeps at most this many bytes for its next result."""
 
 LEAST_LG_K, MOST_LG_K = 4, 21
+HEADER = 40
+"""The size of a header with estimator fields and counts; the header of a list or a set is shorter."""
+
+
+class Head(ctypes.Structure):
+    """``hll_head`` of hll.h."""
+
+    size: int
+    count: int
+    lg_k: int
+    width: int
+    stage: int
+    flags: int
+    minimum: int
+    fault: int
+    _fields_ = [
+        ("size", c_uint64),
+        ("count", c_uint32),
+        ("lg_k", c_uint8),
+        ("width", c_uint8),
+        ("stage", c_uint8),
+        ("flags", c_uint8),
+        ("minimum", c_uint8),
+        ("fault", c_uint8),
+    ]
 
 
 class Info(ctypes.Structure):
@@ -156,57 +162,84 @@ class Estimation(ctypes.Structure):
     ]
 
 
-_IMAGE = [c_char_p, c_size_t]
-_ENDS = [c_void_p, c_size_t]
-_OUT = [c_void_p, c_size_t, c_void_p]
-_REGISTERS = [c_void_p, c_size_t]
-_COUNTER = [c_void_p]
-_CALLS = {
-    "hll_image_info": _IMAGE + [POINTER(Info), c_size_t],
-    "hll_image_check": _IMAGE,
-    "hll_image_size": _IMAGE + [POINTER(c_size_t)],
-    "hll_image_histogram": _IMAGE + [POINTER(Histogram)],
-    "hll_image_new": [c_uint, c_uint] + _OUT,
-    "hll_image_add": _IMAGE + _IMAGE + _ENDS + _OUT,
-    "hll_image_add_coupon": _IMAGE + [c_uint32, c_uint] + _OUT,
-    "hll_image_merge": [c_uint, c_uint] + _IMAGE + _IMAGE + _OUT + [c_void_p],
-    "hll_images_union": [c_uint, c_uint] + _IMAGE + _ENDS + _OUT + [c_void_p],
-    "hll_image_fold": _IMAGE + [c_uint] + _OUT,
-    "hll_image_convert": _IMAGE + [c_uint] + _OUT,
-    "hll_image_set_estimator_fields": _IMAGE + _OUT,
-    "hll_image_clear_estimator_fields": _IMAGE + _OUT,
-    "hll_images_agree": _IMAGE + _IMAGE + [POINTER(c_uint8), c_void_p],
-    "hll_coupon": _IMAGE,
-    "hll_coupons": _IMAGE + _ENDS + [c_void_p, c_size_t],
-    "hll_estimate": _IMAGE + [POINTER(Estimation)],
-    "hll_hip_estimate": _IMAGE + [POINTER(Estimation)],
-    "hll_version": [],
-    "hll_processor": [],
-    "hll_registers_add": _REGISTERS + _IMAGE + _ENDS,
-    "hll_registers_add_coupons": _REGISTERS + [c_void_p, c_size_t],
-    "hll_registers_merge": _REGISTERS + _IMAGE + [POINTER(c_uint8)],
-    "hll_registers_merge_registers": _REGISTERS + _REGISTERS + [POINTER(c_uint8)],
-    "hll_registers_fold": _REGISTERS + [c_uint],
-    "hll_registers_histogram": _REGISTERS + [POINTER(Histogram)],
-    "hll_registers_image": _REGISTERS + [c_uint] + _OUT,
-    "hll_registers_estimate": _REGISTERS + [POINTER(Estimation)],
-    "hll_counter_init": _COUNTER + [c_uint, c_void_p, c_void_p],
-    "hll_counter_free": _COUNTER,
-    "hll_counter_copy": _COUNTER + _COUNTER,
-    "hll_counter_join": _COUNTER + _IMAGE,
-    "hll_counter_settle": _COUNTER,
-    "hll_counter_shrink": _COUNTER,
-    "hll_counter_info": _COUNTER + [POINTER(Summary), c_size_t],
-    "hll_counter_image": _COUNTER + [c_uint] + _OUT,
-    "hll_counter_estimate": _COUNTER + [POINTER(Estimation)],
+# scripts/calls.py writes what follows, from bindings/c/hll.h
+WORDS = (
+    "ok",
+    "truncated",
+    "family",
+    "version",
+    "lgk",
+    "width",
+    "stage",
+    "preamble",
+    "lgarr",
+    "count",
+    "coupon",
+    "register",
+    "argument",
+    "memory",
+    "buffer",
+    "coarser",
+    "other_lg_k",
+)
+_CALLS: Dict[str, Tuple[object, Sequence[object]]] = {
+    "hll_version": (c_uint32, []),
+    "hll_processor": (c_char_p, []),
+    "hll_image_head": (c_uint8, [c_char_p, c_size_t, POINTER(Head), c_size_t]),
+    "hll_image_info": (c_uint8, [c_char_p, c_size_t, POINTER(Info), c_size_t]),
+    "hll_image_check": (c_uint8, [c_char_p, c_size_t]),
+    "hll_image_histogram": (c_uint8, [c_char_p, c_size_t, POINTER(Histogram)]),
+    "hll_image_new": (c_uint8, [c_uint, c_uint, c_void_p, c_size_t, c_void_p]),
+    "hll_image_add": (
+        c_uint8,
+        [c_char_p, c_size_t, c_char_p, c_size_t, c_void_p, c_size_t, c_void_p, c_size_t, c_void_p],
+    ),
+    "hll_image_add_coupon": (
+        c_uint8,
+        [c_char_p, c_size_t, c_uint32, c_uint, c_void_p, c_size_t, c_void_p],
+    ),
+    "hll_image_merge": (
+        c_uint8,
+        [c_uint, c_uint, c_char_p, c_size_t, c_char_p, c_size_t, c_void_p, c_size_t, c_void_p, c_void_p],
+    ),
+    "hll_images_union": (
+        c_uint8,
+        [c_uint, c_uint, c_char_p, c_size_t, c_void_p, c_size_t, c_void_p, c_size_t, c_void_p, c_void_p],
+    ),
+    "hll_image_fold": (c_uint8, [c_char_p, c_size_t, c_uint, c_void_p, c_size_t, c_void_p]),
+    "hll_image_convert": (c_uint8, [c_char_p, c_size_t, c_uint, c_void_p, c_size_t, c_void_p]),
+    "hll_image_set_estimator_fields": (
+        c_uint8,
+        [c_char_p, c_size_t, c_void_p, c_size_t, c_void_p],
+    ),
+    "hll_image_clear_estimator_fields": (
+        c_uint8,
+        [c_char_p, c_size_t, c_void_p, c_size_t, c_void_p],
+    ),
+    "hll_images_agree": (c_uint8, [c_char_p, c_size_t, c_char_p, c_size_t, c_void_p, c_void_p]),
+    "hll_registers_add": (c_uint8, [c_void_p, c_size_t, c_char_p, c_size_t, c_void_p, c_size_t]),
+    "hll_registers_add_coupons": (c_uint8, [c_void_p, c_size_t, c_void_p, c_size_t]),
+    "hll_registers_merge": (c_uint8, [c_void_p, c_size_t, c_char_p, c_size_t, c_void_p]),
+    "hll_registers_merge_registers": (c_uint8, [c_void_p, c_size_t, c_void_p, c_size_t, c_void_p]),
+    "hll_registers_fold": (c_uint8, [c_void_p, c_size_t, c_uint]),
+    "hll_registers_histogram": (c_uint8, [c_void_p, c_size_t, POINTER(Histogram)]),
+    "hll_registers_image": (c_uint8, [c_void_p, c_size_t, c_uint, c_void_p, c_size_t, c_void_p]),
+    "hll_counter_init": (c_uint8, [c_void_p, c_uint, c_void_p, c_void_p]),
+    "hll_counter_free": (None, [c_void_p]),
+    "hll_counter_join": (c_uint8, [c_void_p, c_char_p, c_size_t]),
+    "hll_counter_copy": (c_uint8, [c_void_p, c_void_p]),
+    "hll_counter_settle": (c_uint8, [c_void_p]),
+    "hll_counter_shrink": (None, [c_void_p]),
+    "hll_counter_image": (c_uint8, [c_void_p, c_uint, c_void_p, c_size_t, c_void_p]),
+    "hll_counter_estimate": (c_uint8, [c_void_p, POINTER(Estimation)]),
+    "hll_counter_info": (c_uint8, [c_void_p, POINTER(Summary), c_size_t]),
+    "hll_coupon": (c_uint32, [c_char_p, c_size_t]),
+    "hll_coupons": (c_uint8, [c_char_p, c_size_t, c_void_p, c_size_t, c_void_p, c_size_t]),
+    "hll_estimate": (c_uint8, [c_char_p, c_size_t, POINTER(Estimation)]),
+    "hll_hip_estimate": (c_uint8, [c_char_p, c_size_t, POINTER(Estimation)]),
+    "hll_registers_estimate": (c_uint8, [c_void_p, c_size_t, POINTER(Estimation)]),
 }
-_ANSWERS: Dict[str, object] = {
-    "hll_coupon": c_uint32,
-    "hll_version": c_uint32,
-    "hll_processor": ctypes.c_char_p,
-    "hll_counter_free": None,
-    "hll_counter_shrink": None,
-}
+# end of what scripts/calls.py writes
 
 
 def _is_in_checkout(package: pathlib.Path) -> bool:
@@ -274,6 +307,9 @@ def _check_version(number: int) -> None:
 
 def _check_answers(calls: Dict[str, Call]) -> None:
     """Raises an error for a library with other results for the known image."""
+    known = _filled(calls["hll_image_head"], Head, ctypes.sizeof(Head))
+    if (known.size, known.count, known.lg_k, known.width, known.flags, known.fault) != (12, 1, 10, 8, 8, OK):
+        raise ImportError("its head is laid out in another way")
     found = _filled(calls["hll_image_info"], Info, ctypes.sizeof(Info))
     if (found.coupons, found.lg_k, found.width, found.stage) != (1, 10, 8, 0):
         raise ImportError("its info is laid out in another way")
@@ -300,7 +336,7 @@ def _calls_of(place: str) -> Dict[str, Call]:
     library, whole = ctypes.CDLL(place), ctypes.PyDLL(place)
     calls = {name: getattr(whole if "_counter_" in name else library, name) for name in _CALLS}
     for name, call in calls.items():
-        call.argtypes, call.restype = _CALLS[name], _ANSWERS.get(name, c_uint8)
+        call.restype, call.argtypes = _CALLS[name]
     _check_version(calls["hll_version"]())
     _check_answers(calls)
     return calls
@@ -469,6 +505,23 @@ def new(lg_k: int, width: int) -> bytes:
     return _written(_library.hll_image_new, 64, lg_k, width)
 
 
+def head(image: bytes) -> Head:
+    """Returns what the header of an image and the counts after it say, of at least its first ``HEADER`` bytes."""
+    found, first = Head(), image[:HEADER]
+    _ensure(_library.hll_image_head(first, len(first), byref(found), ctypes.sizeof(Head)))
+    return found
+
+
+def lg_k_in(image: bytes) -> int:
+    """Returns the ``lg_k`` in the header of an image, or the least one if the header has a fault."""
+    return head(image).lg_k or LEAST_LG_K
+
+
+def width_in(image: bytes) -> int:
+    """Returns the width in the header of an image, or 8 if the header has a fault."""
+    return head(image).width or 8
+
+
 def info(image: bytes) -> Info:
     """Returns what an image says."""
     found = Info()
@@ -511,7 +564,7 @@ def add(image: bytes, values: bytes, ends: Numbers, count: int) -> bytes:
     """Returns the image with ``count`` more values, delimited by their ends."""
     given = image, len(image), values, len(values), _address(ends), count
     try:
-        return _written(_library.hll_image_add, room_for(image[3]), *given)
+        return _written(_library.hll_image_add, room_for(lg_k_in(image)), *given)
     except ArgumentError:
         raise ArgumentError(_WRONG_ENDS) from None
 
@@ -519,7 +572,7 @@ def add(image: bytes, values: bytes, ends: Numbers, count: int) -> bytes:
 def add_coupon(image: bytes, slot: int, value: int) -> bytes:
     """Returns the image with one more coupon."""
     return _written(
-        _library.hll_image_add_coupon, room_for(image[3]), image, len(image), slot, value
+        _library.hll_image_add_coupon, room_for(lg_k_in(image)), image, len(image), slot, value
     )
 
 
@@ -547,21 +600,20 @@ def fold(image: bytes, lg_k: int) -> bytes:
 
 def convert(image: bytes, width: int) -> bytes:
     """Returns the image at a width."""
-    lg_k = image[3] if len(image) > 3 and image[3] <= MOST_LG_K else LEAST_LG_K
-    return _written(_library.hll_image_convert, room_for(lg_k), image, len(image), width)
+    return _written(_library.hll_image_convert, room_for(lg_k_in(image)), image, len(image), width)
 
 
 def clear_estimator_fields(image: bytes) -> bytes:
     """Returns the image with estimator fields of zero."""
     return _written(
-        _library.hll_image_clear_estimator_fields, room_for(image[3]), image, len(image)
+        _library.hll_image_clear_estimator_fields, room_for(lg_k_in(image)), image, len(image)
     )
 
 
 def set_estimator_fields(image: bytes) -> bytes:
     """Returns the image with the estimator fields of its registers."""
     return _written(
-        _library.hll_image_set_estimator_fields, room_for(image[3]), image, len(image)
+        _library.hll_image_set_estimator_fields, room_for(lg_k_in(image)), image, len(image)
     )
 
 
@@ -730,16 +782,3 @@ def estimation_of_counter(counter: Counter) -> Estimation:
     found = Estimation()
     _ensure(_library.hll_counter_estimate(byref(counter), byref(found)))
     return found
-
-
-# ---- headers
-
-
-def width_of_mode(mode: int) -> int:
-    """Returns the width in the last byte of a header."""
-    return (4, 6, 8, 8)[mode >> 2 & 3]
-
-
-def width_in(image: bytes) -> int:
-    """Returns the width in the header of an image, or 8 if it has none."""
-    return width_of_mode(image[7]) if len(image) > 7 else 8

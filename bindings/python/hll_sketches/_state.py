@@ -19,18 +19,14 @@ LARGE = 1 << 16
 """A larger image is checked before it is merged: other threads wait while a counter changes, and an
 untrusted image can take a second to read."""
 
-_kind = itemgetter(slice(3, 8, 4))
-"""The part of an image that has its ``lg_k`` and its width."""
+_header = itemgetter(slice(8))
+"""The header of an image. Most images share theirs with others, so it is read once for all of these."""
 
 
 def _kinds(images: Iterable[bytes]) -> Set[Tuple[int, int]]:
-    """Returns the pairs of ``lg_k`` and width in the headers of images; 0 for a number out of range."""
-    found = set()
-    for kind in set(map(_kind, images)):
-        lg_k, mode = kind if len(kind) == 2 else (0, 0)
-        is_lg_k = _library.LEAST_LG_K <= lg_k <= _library.MOST_LG_K
-        found.add((lg_k if is_lg_k else 0, _library.width_of_mode(mode)))
-    return found
+    """Returns the pairs of ``lg_k`` and width in the headers of images; zeros for a header with a fault."""
+    heads = map(_library.head, set(map(_header, images)))
+    return {(head.lg_k, head.width) for head in heads}
 
 
 class State:
@@ -97,7 +93,7 @@ class State:
         if len(image) > LARGE:
             image = _library.convert(image, _library.width_in(image))
         if not _library.join_counter(self._counter, image):
-            raise PrecisionError(image[3], self.lg_k)
+            raise PrecisionError(_library.lg_k_in(image), self.lg_k)
         self.count += 1
 
     def join_all(self, images: Sequence[bytes]) -> None:

@@ -272,9 +272,8 @@ class Archive:
         check_output(path, force)
         before = entries_of_file(path) if os.path.lexists(path) else iter(())
         others = {*range(_library.LEAST_LG_K, _library.MOST_LG_K + 1)} - {lg_k}
-        self._other_lg_k = {
-            key: image[3] for key, image in before if len(image) > 3 and image[3] in others
-        }
+        lg_ks = ((key, _library.head(image).lg_k) for key, image in before)
+        self._other_lg_k = {key: lg_k for key, lg_k in lg_ks if lg_k in others}
 
     def begin(self, key: bytes) -> bytes:
         """Returns an empty image at the ``lg_k`` of a key.
@@ -368,11 +367,12 @@ class Archive:
         before = of_bytes(
             name_of_entry(self.path, key), before, lambda data: _library.convert(data, _library.width_in(data))
         )
-        if before[3] != image[3]:
-            words = f"the lg_k of key {shown_key(key)} is {before[3]}, and was {image[3]} while lines were " \
+        present, counted = _library.lg_k_in(before), _library.lg_k_in(image)
+        if present != counted:
+            words = f"the lg_k of key {shown_key(key)} is {present}, and was {counted} while lines were " \
                 "read: add them again"
             raise Trouble(self.path, words)
-        return _library.merge(image[3], _library.width_in(before), before, image)
+        return _library.merge(counted, _library.width_in(before), before, image)
 
 
 # ---- merging archives

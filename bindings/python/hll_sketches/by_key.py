@@ -228,17 +228,18 @@ class Directory:
         name = self._file_of(key)
         if not os.path.lexists(name):
             return self._empty
-        lg_k = image_of_file(name)[3]
+        lg_k = _library.lg_k_in(image_of_file(name))
         check_output(name, self._force)
-        return self._empty if lg_k == self._empty[3] else _library.new(lg_k, 8)
+        return self._empty if lg_k == _library.lg_k_in(self._empty) else _library.new(lg_k, 8)
 
     def _begin_item(self, name: str, image: bytes, locks: ExitStack) -> Item:
         """Returns what a file is to be: new, or merged, under the lock of the file."""
         if not os.path.lexists(name):
             return Item(name, self._finish(_library.convert(image, self._width)), True)
         locks.enter_context(locked(name, self._still_waiting))
-        before = image_at(name, image[3])
-        merged = _library.merge(image[3], _library.width_in(before), before, image)
+        lg_k = _library.lg_k_in(image)
+        before = image_at(name, lg_k)
+        merged = _library.merge(lg_k, _library.width_in(before), before, image)
         return Item(name, self._finish(merged), False)
 
     def _write_alone(self, name: str, image: bytes) -> None:

@@ -115,7 +115,7 @@ def summary(image: bytes, deviations: int = 2) -> Record:
 
     Coupons are read once and written in the library's order, which is quick to read afterwards.
     """
-    is_coupons = len(image) < 8 or image[7] & 3 < 2
+    is_coupons = STAGES[_library.head(image).stage] != "registers"
     quick = _library.convert(image, _library.width_in(image)) if is_coupons else image
     facts, found_ = _library.info(quick), _library.estimation(quick)
     record: Record = {
@@ -191,7 +191,7 @@ def _row_of(facts: Record) -> List[str]:
 
 def _agreement(left: bytes, right: bytes) -> str:
     """Returns words about whether two images agree."""
-    lg_k = min(left[3], right[3])
+    lg_k = min(map(_library.lg_k_in, (left, right)))
     if _library.agree(left, right):
         return f"yes, at lg_k {lg_k}"
     return f"no, in {len(_differing(left, right, lg_k)):,} of {1 << lg_k:,} slots at lg_k {lg_k}"
@@ -209,7 +209,7 @@ def _no_intersection(facts: List[Record]) -> str:
 
 def _pair(images: List[bytes], records: List[Record], deviations: int) -> str:
     """Returns lines about two images: whether they agree, their union, and why there is no intersection."""
-    union = _library.merge(max(image[3] for image in images), 8, *images)
+    union = _library.merge(max(_library.lg_k_in(image) for image in images), 8, *images)
     facts = summary(union, deviations)
     bounds = f"{rounded(facts['lower'])} to {rounded(facts['upper'])}, at {deviations} standard deviations"
     rows = [
@@ -387,8 +387,9 @@ def merge(options: Namespace) -> int:
     if not answer.merged:
         raise Trouble("merge", "no image is left to merge", _worst(left_out, UNUSABLE))
     image = finished(answer.image, options.plain)
-    if options.lg_k is not None and image[3] < options.lg_k:
-        say(f"merge: the result has lg_k {image[3]}, as a file has, and not {options.lg_k}")
+    lg_k = _library.lg_k_in(image)
+    if options.lg_k is not None and lg_k < options.lg_k:
+        say(f"merge: the result has lg_k {lg_k}, as a file has, and not {options.lg_k}")
     return put(options, image, merged=answer.merged, left_out=_skipped(left_out))
 
 
@@ -446,7 +447,7 @@ def fold(options: Namespace) -> int:
         try:
             return _library.fold(image, options.lg_k)
         except ArgumentError:
-            words = f"its lg_k is {image[3]}, and a fold goes no higher"
+            words = f"its lg_k is {_library.lg_k_in(image)}, and a fold goes no higher"
             raise Trouble(options.file, words) from None
 
     return put(options, finished(of_file(options.file, folded), options.plain))
@@ -478,7 +479,7 @@ def add(options: Namespace) -> int:
         return _add_by_key(options)
     if not os.path.lexists(options.file):
         raise Trouble(options.file, "No such file or directory (hll new makes it)", UNUSABLE)
-    lg_k = image_of_file(options.file)[3]
+    lg_k = _library.lg_k_in(image_of_file(options.file))
     options.output = options.output or options.file
     check_output(options.output, options.force)
     lines = _lines_of_input(lg_k, options.kind == "int", options.longest_line)
@@ -595,7 +596,7 @@ def diff(options: Namespace) -> int:
         left, right = image_of_file(options.left), image_of_file(options.right)
     except Trouble as trouble:
         raise Trouble(trouble.name, trouble.words, UNUSABLE) from None
-    lg_k = min(left[3], right[3])
+    lg_k = min(map(_library.lg_k_in, (left, right)))
     agree = _library.agree(left, right)
     slots = [] if agree else _differing(left, right, lg_k)
     shown = slots[: options.most]

@@ -287,8 +287,9 @@ def image_at(name: str, lg_k: int) -> bytes:
         If the file can't be read, is no image, or has another ``lg_k``.
     """
     image = image_of_file(name)
-    if image[3] != lg_k:
-        words = f"its lg_k has become {image[3]}, from {lg_k}, while lines were read: add them again"
+    found = _library.lg_k_in(image)
+    if found != lg_k:
+        words = f"its lg_k has become {found}, from {lg_k}, while lines were read: add them again"
         raise Trouble(name, words)
     return image
 

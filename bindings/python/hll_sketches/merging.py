@@ -24,7 +24,7 @@ from ._workers import WorkerLost, Workers
 from .archive import MAGIC, entries_of_file, name_of_entry
 from .files import STANDARD, UNUSABLE, Trouble, bytes_of_file, image_trouble
 from .finding import found
-from .layout import holds_values
+from .layout import is_empty
 from .progress import Bar
 from .sketch import Sketch
 from .union import checked_bounds
@@ -143,8 +143,8 @@ class _Files:
     def _see(self, names: Group, images: List[bytes]) -> None:
         """Remembers the name of the first merged file that isn't empty."""
         if self.first is None:
-            holding = (name for name, image in zip(names, images) if holds_values(image))
-            self.first = next(holding, None)
+            pairs = zip(names, images)
+            self.first = next((name for name, image in pairs if not is_empty(image)), None)
 
 
 def union_of_group(lg_max_k: int, names: Group) -> Part:

@@ -166,10 +166,11 @@ def histogram_svg(image: bytes, title: str) -> str:
     title : str
         The title, which is followed by the numbers.
     """
-    lg_k, estimate = image[3], _library.estimation(image).estimate
+    head, estimate = _library.head(image), _library.estimation(image).estimate
+    lg_k = head.lg_k
     chart = _Chart(_library.histogram(image), expected(estimate, lg_k), lg_k)
     about = "more values than can be estimated" if math.isinf(estimate) else f"{estimate:,.0f} values"
-    kind = "registers" if STAGES[image[7] & 3] == "registers" else "slots of coupons"
+    kind = "registers" if STAGES[head.stage] == "registers" else "slots of coupons"
     short = title if len(title) <= TITLE else title[: TITLE - 1] + "\u2026"
     heading = f"{short}: {1 << lg_k:,} {kind}, about {about}"
     parts = [words(LEFT, 28, heading, "title"), *_legend()]

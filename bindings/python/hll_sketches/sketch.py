@@ -13,10 +13,9 @@ from ._locks import Lock
 from ._missing import Missing
 from ._state import united
 from ._values import Value, batches, bytes_of
+from .layout import STAGES
 
 _S = TypeVar("_S", bound="Sketch")
-
-_STAGES = ("list", "set", "registers")
 
 Buffer = Union[bytes, bytearray, memoryview, Any]
 """An object that shares its bytes: also an ``array``, an ``mmap``, or a NumPy array."""
@@ -104,11 +103,12 @@ def is_image(data: Buffer) -> bool:
 def is_small(
     image: Buffer, max_lg_k: int = 12, max_bytes: int = 8192
 ) -> bool:
-    """Return whether an untrusted image is small, and so quick to read.
+    """Return whether an untrusted image is small, and so quick to read or to reject.
 
     A malicious image can occupy its reader for more than a second. Its ``lg_k`` and its size bound
     this time, and are known without reading the image. With the defaults, reading takes milliseconds,
-    and every image that honest programs write at ``lg_k`` 12 passes.
+    and every image that honest programs write at ``lg_k`` 12 passes. Bytes whose header has a fault are
+    rejected at once.
 
     Parameters
     ----------
@@ -120,7 +120,7 @@ def is_small(
         The greatest size.
     """
     max_lg_k, data = checked_lg_k(max_lg_k), _view_of(image)
-    return 4 <= data.nbytes <= max_bytes and data.cast("B")[3] <= max_lg_k
+    return data.nbytes <= max_bytes and _library.head(bytes(data.cast("B")[: _library.HEADER])).lg_k <= max_lg_k
 
 
 class Sketch:
@@ -400,8 +400,9 @@ class Sketch:
 
     def _merged(self, image: bytes, lg_max_k: int = 0) -> bytes:
         mine = self.to_bytes()
-        if mine[3] == image[3] and not (mine[7] ^ image[7]) & 12:       # one lg_k and one width
-            return _library.merge(lg_max_k or mine[3], _library.width_in(mine), mine, image)
+        ours, theirs = _library.head(mine), _library.head(image)
+        if (ours.lg_k, ours.width) == (theirs.lg_k, theirs.width):
+            return _library.merge(lg_max_k or ours.lg_k, ours.width, mine, image)
         try:
             return united([mine, image], lg_max_k)
         except PrecisionError as error:
@@ -451,8 +452,9 @@ class Sketch:
             If ``lg_k`` is below 4 or above the ``lg_k`` of this sketch.
         """
         image, lg_k = self.to_bytes(), checked_lg_k(lg_k)
-        if lg_k > image[3]:
-            raise ArgumentError(f"a fold is to an lg_k of at most {image[3]}, not {lg_k}")
+        most = _library.lg_k_in(image)
+        if lg_k > most:
+            raise ArgumentError(f"a fold is to an lg_k of at most {most}, not {lg_k}")
         return self._of(_library.fold(image, lg_k))
 
     def convert(self: _S, width: int) -> _S:
@@ -479,7 +481,7 @@ class Sketch:
     @property
     def lg_k(self) -> int:
         """The base-2 logarithm of the number of registers."""
-        return self._image[3]
+        return _library.lg_k_in(self._image)
 
     @property
     def width(self) -> int:
@@ -489,7 +491,7 @@ class Sketch:
     @property
     def stage(self) -> str:
         """``"list"``, ``"set"`` or ``"registers"``."""
-        return _STAGES[self.to_bytes()[7] & 3]
+        return STAGES[_library.head(self.to_bytes()).stage]
 
     @property
     def is_empty(self) -> bool:
@@ -583,7 +585,7 @@ class Sketch:
         else:
             content = f"{found.coupons} coupons"
         name = type(self).__name__
-        return f"<{name} lg_k={found.lg_k} width={found.width}: {_STAGES[found.stage]}, {content}>"
+        return f"<{name} lg_k={found.lg_k} width={found.width}: {STAGES[found.stage]}, {content}>"
 
     # ---- copies
 

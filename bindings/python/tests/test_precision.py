@@ -15,7 +15,6 @@ import common  # noqa: F401, for the path
 from command import CUT, CommandTest, TRUNCATED
 from hll_sketches import FilesError, ImageError, PrecisionError, Sketch, SketchUnion, _library
 from hll_sketches import is_image, merge_files, union_of
-from hll_sketches.layout import holds_values
 from mutants import KINDS, Mutants
 
 CASES = 400
@@ -172,7 +171,6 @@ class RuleTest(unittest.TestCase):
                 if not is_image(image):
                     continue
                 is_empty = bool(_library.info(image).is_empty)
-                self.assertEqual(holds_values(image), not is_empty, image.hex())
                 seen.add((kind, is_empty))
                 if is_empty or image[3] == 10:
                     made = union_of([REGISTERS, image])

@@ -55,6 +55,7 @@ pub(crate) enum Cause {
 }
 
 /// The word and the sentence of each status of an image, from 1 on, as in hll.h.
+// scripts/calls.py writes what follows, from bindings/c/hll.h
 const REASONS: [(&str, &str); 11] = [
     ("truncated", "the bytes end inside what the header asks for"),
     ("family", "the family byte is not 7"),
@@ -68,6 +69,7 @@ const REASONS: [(&str, &str); 11] = [
     ("coupon", "a coupon has the value 0 where a coupon is needed, or comes twice"),
     ("register", "a register is above 63, or nibbles and exceptions do not agree"),
 ];
+// end of what scripts/calls.py writes
 
 impl Error {
     pub(crate) fn new(cause: Cause) -> Self {
@@ -84,7 +86,7 @@ impl Error {
 
     /// The error of a checked image, whose `lg_k` is not that of the images before it.
     pub(crate) fn of_other_lg_k(lg_k: u8, image: &[u8]) -> Self {
-        Self::new(Cause::OtherLgK { lg_k, other: image.get(3).copied().unwrap_or(0), index: None })
+        Self::new(Cause::OtherLgK { lg_k, other: libhll::head(image).lg_k, index: None })
     }
 
     /// Returns the error with the index of the image.

@@ -1,5 +1,9 @@
 // SPDX-License-Identifier: Apache-2.0
-//! HyperLogLog sketches in the format of Apache DataSketches, over `libhll`, whose calls are proved.
+//! HyperLogLog sketches in the format of Apache DataSketches, over the C library `libhll`.
+//!
+//! Proved calls of the C library hash and add values, read, merge and write images, and estimate from registers. The counter that
+//! holds a sketch between these calls (its memory, waiting values, copies), bounds, and estimates of few values are plain C: tested,
+//! not proved.
 //!
 //! The module [`hll`] has the names of the module `hll` of the crate `datasketches` (0.6.0), the original. To switch, change
 //! the crate's name in `Cargo.toml` and in `use`. The README says what differs.

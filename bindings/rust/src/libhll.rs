@@ -50,7 +50,10 @@ macro_rules! calls {
     };
 }
 
+// scripts/calls.py writes what follows, from bindings/c/hll.h
 calls! {
+    "hll_0_2_processor" fn hll_processor() -> *const c_char;
+    "hll_0_2_image_head" fn hll_image_head(image: *const u8, len: usize, head: *mut Head, head_size: usize) -> Status;
     "hll_0_2_image_check" fn hll_image_check(image: *const u8, len: usize) -> Status;
     "hll_0_2_images_unionv" fn hll_images_unionv(
         lg_max_k: c_uint,
@@ -62,9 +65,6 @@ calls! {
         size: *mut usize,
         failed: *mut usize
     ) -> Status;
-    "hll_0_2_hip_estimate" fn hll_hip_estimate(image: *const u8, len: usize, found: *mut Estimation) -> Status;
-    "hll_0_2_coupon" fn hll_coupon(value: *const u8, len: usize) -> u32;
-    "hll_0_2_processor" fn hll_processor() -> *const c_char;
     "hll_0_2_counter_init" fn hll_counter_init(
         counter: *mut Counter,
         lg_k: c_uint,
@@ -73,7 +73,11 @@ calls! {
     ) -> Status;
     "hll_0_2_counter_free" fn hll_counter_free(counter: *mut Counter) -> ();
     "hll_0_2_counter_add" fn hll_counter_add(counter: *mut Counter, value: *const u8, len: usize) -> Status;
-    "hll_0_2_counter_add_coupons" fn hll_counter_add_coupons(counter: *mut Counter, coupons: *const u32, n: usize) -> Status;
+    "hll_0_2_counter_add_coupons" fn hll_counter_add_coupons(
+        counter: *mut Counter,
+        coupons: *const u32,
+        n: usize
+    ) -> Status;
     "hll_0_2_counter_join" fn hll_counter_join(counter: *mut Counter, image: *const u8, len: usize) -> Status;
     "hll_0_2_counter_join_counter" fn hll_counter_join_counter(counter: *mut Counter, other: *const Counter) -> Status;
     "hll_0_2_counter_copy" fn hll_counter_copy(to: *mut Counter, from: *const Counter) -> Status;
@@ -84,13 +88,16 @@ calls! {
         room: usize,
         size: *mut usize
     ) -> Status;
-    "hll_0_2_counter_estimate" fn hll_counter_estimate(counter: *const Counter, found: *mut Estimation) -> Status;
+    "hll_0_2_counter_estimate" fn hll_counter_estimate(counter: *const Counter, estimation: *mut Estimation) -> Status;
     "hll_0_2_counter_info" fn hll_counter_info(
         counter: *const Counter,
         summary: *mut Summary,
         summary_size: usize
     ) -> Status;
+    "hll_0_2_coupon" fn hll_coupon(value: *const u8, len: usize) -> u32;
+    "hll_0_2_hip_estimate" fn hll_hip_estimate(image: *const u8, len: usize, estimation: *mut Estimation) -> Status;
 }
+// end of what scripts/calls.py writes
 
 pub(crate) fn checked(status: Status) -> Result<(), Status> {
     match status {
@@ -133,8 +140,28 @@ fn fitted(bytes: Vec<u8>) -> Result<Vec<u8>, Status> {
 
 // ---- images and values
 
-pub(crate) fn image_check(image: &[u8]) -> Result<(), Status> {
+/// A `hll_head`.
+#[repr(C)]
+#[derive(Default)]
+pub(crate) struct Head {
+    _size: u64,
+    _count: u32,
+    pub(crate) lg_k: u8,
+    pub(crate) width: u8,
+    pub(crate) stage: u8,
+    _others: [u8; 3],
+}
+
+/// What the header of an image says. All is 0 if the header has a fault.
+pub(crate) fn head(image: &[u8]) -> Head {
+    let mut head = Head::default();
     // SAFETY: "What the caller must ensure", as said at the top; and so it is below.
+    let status = unsafe { hll_image_head(image.as_ptr(), image.len(), &mut head, size_of::<Head>()) };
+    debug_assert_eq!(status, OK);
+    head
+}
+
+pub(crate) fn image_check(image: &[u8]) -> Result<(), Status> {
     checked(unsafe { hll_image_check(image.as_ptr(), image.len()) })
 }
 

@@ -62,9 +62,6 @@ module _ (k : ℕ) (R : List ℕ) (state : EstimateState) (low_k : 4 ≤ k) (sma
 
   -- ---- 8-bit registers
 
-  pub hll8 : List ℕ
-  hll8 = number_bytes state (zeros R) 0 ++ R
-
   numbers8 : Preamble state (zeros R) 0 R
   numbers8 = numbers_of state (zeros R) 0 R is (omega (arith, zeros_le, few)) (omega arith)
 

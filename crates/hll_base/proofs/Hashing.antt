@@ -36,9 +36,6 @@ module _ where
   pub first_word-filled : (xs : List ℕ) (n : ℕ) → first_word (xs ++ replicate n 0) ≡ first_word xs
   first_word-filled xs n = same_word (take 8 (xs ++ replicate n 0)) (take 8 xs) (filled_up 8 0 n xs)
 
-  pub second_word-filled : (xs : List ℕ) (n : ℕ) → second_word (xs ++ replicate n 0) ≡ second_word xs
-  second_word-filled xs n = same_word (take 8 (drop 8 (xs ++ replicate n 0))) (take 8 (drop 8 xs)) (filled_up 8 8 n xs)
-
 pub rest_first : (h : Halves) (block rest : List ℕ) (count : ℕ) → length rest ≡ count → block ≡ rest ++ replicate (16 - count) 0 → 0 < count → count ≤ 8
     → record { first = bit_xor h.first (first_scramble (first_word block)); second = h.second } ≡ after_rest h rest
 rest_first h block rest count e is some few =

@@ -1,7 +1,7 @@
 // SPDX-License-Identifier: Apache-2.0
 //! The state of MurmurHash3 x64 128 and its mixing steps (docs/FORMAT.md, "The hash").
-ghost use Rattle.std.specs.Prelude.{◌≡◌, ℕ, ◌++◌, ◌-◌, ◌<◌, ◌≤◌, ◌^◌, List, length, replicate, fold};
-ghost use Rattle.std.specs.Int.{w64, from_le_bytes};
+ghost use Rattle.std.specs.Prelude.{◌≡◌, ℕ, take, drop, ◌++◌, ◌-◌, ◌<◌, ◌≤◌, ◌^◌, List, length, replicate, fold};
+ghost use Rattle.std.specs.Int.{w32, w64, from_le_bytes};
 ghost use Rattle.hll_base.specs.Hash as spec;
 ghost use Rattle.hll_base.specs.Hash.{rotation, mix_of, first_scramble, second_scramble, first_word, second_word, after_block, after_rest, final_halves};
 
@@ -88,13 +88,49 @@ fn few_bytes(bytes: &[u8]) -> u64
 }
 
 /// Returns the little-endian number that up to seven bytes hold.
+// (from four bytes on by two numbers that overlap, so that there is no branch for each length)
 fn some_bytes(bytes: &[u8]) -> u64
     requires { length bytes.now ≤ 7 }
     ensures { result ≡ from_le_bytes w64 bytes.now }
 {
-    match bytes.split_first_chunk::<4>() {
-        Some((low, high)) => u64::from(u32::from_le_bytes(*low)) + few_bytes(high) * (1 << 32),
-        None => few_bytes(bytes),
+    if bytes.len() < 4 {
+        return few_bytes(bytes);
+    }
+    first_four(bytes) + (last_four(bytes) >> (8 * (8 - bytes.len()))) * (1 << 32)
+}
+
+/// Returns the little-endian number that the first four bytes hold.
+fn first_four(bytes: &[u8]) -> u64
+    requires { 4 ≤ length bytes.now }
+    ensures number { result ≡ from_le_bytes w32 (take 4 bytes.now) }
+    ensures small { result < 2 ^ 32 }
+{
+    match bytes.first_chunk::<4>() {
+        Some(four) => u64::from(u32::from_le_bytes(*four)),
+        None => 0,
+    }
+}
+
+/// Returns the little-endian number that the last four bytes hold.
+fn last_four(bytes: &[u8]) -> u64
+    requires { 4 ≤ length bytes.now }
+    ensures number { result ≡ from_le_bytes w32 (drop (length bytes.now - 4) bytes.now) }
+    ensures small { result < 2 ^ 32 }
+{
+    match bytes.last_chunk::<4>() {
+        Some(four) => u64::from(u32::from_le_bytes(*four)),
+        None => 0,
+    }
+}
+
+/// Returns the little-endian number that the last eight bytes hold.
+fn last_eight(bytes: &[u8]) -> u64
+    requires { 8 ≤ length bytes.now }
+    ensures { result ≡ from_le_bytes w64 (drop (length bytes.now - 8) bytes.now) }
+{
+    match bytes.last_chunk::<8>() {
+        Some(eight) => u64::from_le_bytes(*eight),
+        None => 0,
     }
 }
 
@@ -107,6 +143,15 @@ fn word(bytes: &[u8]) -> u64
         Some(all) => u64::from_le_bytes(*all),
         None => some_bytes(bytes),
     }
+}
+
+/// Returns the little-endian number that the bytes after the first eight hold, of 9 to 15 bytes.
+fn end_of_tail(rest: &[u8]) -> u64
+    requires more { 8 < length rest.now }
+    requires few { length rest.now < 16 }
+    ensures { result ≡ second_word rest.now }
+{
+    last_eight(rest) >> (8 * (16 - rest.len()))
 }
 
 impl Halves {
@@ -168,9 +213,8 @@ impl Halves {
             self.first ^= scramble_first(word(rest));
             return;
         }
-        let (low, high) = rest.split_at(8);
-        self.first ^= scramble_first(word(low));
-        self.second ^= scramble_second(word(high));
+        self.first ^= scramble_first(word(&rest[..8]));
+        self.second ^= scramble_second(end_of_tail(rest));
     }
 
     /// Absorbs the last eight bytes, with the same result as `absorb_tail`.

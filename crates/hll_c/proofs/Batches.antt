@@ -1,6 +1,6 @@
 -- SPDX-License-Identifier: Apache-2.0
 -- Lemmas on byte strings that are delimited by their ends: those that are left from an index on.
-use Rattle.std.proofs.Common.{◌≡◌, ◌⊎◌, ◌↔◌, arith, Bool, true, false, ℕ, zero, suc, ◌+◌, ◌-◌, ◌<◌, ◌≤◌, List, [], ◌∷◌, ◌++◌, length, take, drop, get_or, set, map, min, All, inl, inr, refl, sym, ◌∙◌, ap, subst, append_assoc}
+use Rattle.std.proofs.Common.{◌≡◌, ◌↔◌, arith, Bool, true, false, ℕ, zero, suc, ◌+◌, ◌-◌, ◌<◌, ◌≤◌, List, [], ◌∷◌, ◌++◌, length, take, drop, get_or, set, map, min, All, refl, sym, ◌∙◌, ap, subst, append_assoc}
 use Rattle.std.proofs.lemmas.List.{map-append, length-map, take_at, drop_more, drop_all, take_more_set, length-set, drop-set-lt, take-append-drop}
 use Rattle.std.specs.Bool.{IsTrue}
 use Rattle.std.specs.Int.{w64, leading_zeros}
@@ -23,20 +23,6 @@ module _ (size : ℕ) (ends : List ℕ) (i d : ℕ) (inside : i < length ends) w
   pub ends_here : (start : ℕ) → AreEndsFrom start size (drop i ends)
       → (start ≤ get_or ends i d) × (get_or ends i d ≤ size) × AreEndsFrom (get_or ends i d) size (drop (i + 1) ends)
   ends_here start are = subst (AreEndsFrom start size) (drop_more ends i d inside) are
-
-  -- an end that ascends, within the size
-  pub ends_further : (W : Type 0) (start : ℕ) → (AreEndsFrom start size (drop i ends) ↔ W) → start ≤ get_or ends i d → get_or ends i d ≤ size
-      → AreEndsFrom (get_or ends i d) size (drop (i + 1) ends) ↔ W
-  ends_further W start is low high =
-      (λ rest. is.0 (subst (AreEndsFrom start size) (sym (drop_more ends i d inside)) (low, high, rest)), λ w. (ends_here start (is.1 w)).2)
-
-  -- an end that does not ascend, or is above the size
-  pub ends_broken : (W : Type 0) (start : ℕ) → (AreEndsFrom start size (drop i ends) ↔ W) → (get_or ends i d < start) ⊎ (size < get_or ends i d) → W → ⊥
-  ends_broken W start is (inl low) w = let ends = ends_here start (is.1 w) in let no : ⊥ = omega (arith, low, ends.0) in no
-  ends_broken W start is (inr high) w = let ends = ends_here start (is.1 w) in let no : ⊥ = omega (arith, high, ends.1) in no
-
-pub ends_end : (W : Type 0) (start size : ℕ) (ends : List ℕ) (i : ℕ) → length ends ≤ i → (AreEndsFrom start size (drop i ends) ↔ W) → W
-ends_end W start size ends i all is = is.0 (subst (AreEndsFrom start size) (sym (drop_all i ends all)) tt)
 
 -- ---- strings
 

@@ -3,15 +3,12 @@
 use Rattle.std.proofs.Common.{◌≡◌, ◌≢◌, arith, ℕ, ◌+◌, ◌<◌, ◌≤◌, Bool, true, false, nat_eq, List, [], length, take, get_or, set, replicate, refl, sym, ◌∙◌, ap, subst}
 use Rattle.std.specs.List.{count_by}
 use Rattle.std.proofs.lemmas.Bool.Decides.{nat_tests}
-use Rattle.std.proofs.lemmas.List.{get_or-replicate, get_or-set_same, get_or-set_other, take_all, length-take-le}
-use Rattle.std.proofs.lemmas.List.Sums.{count_by-le-length, count_by_more_no, count_by_more_yes}
+use Rattle.std.proofs.lemmas.List.{get_or-replicate, get_or-set_same, get_or-set_other, take_all}
+use Rattle.std.proofs.lemmas.List.Sums.{count_by_more_no, count_by_more_yes}
 use Rattle.hll_c.specs.Info.{AreCountsOf}
 
 pub counts_none : AreCountsOf [] (replicate 64 0)
 counts_none = record { each = λ v small. get_or-replicate 64 v 0 0 small }
-
-is_value : ℕ → ℕ → Bool
-is_value v r = nat_eq r v
 
 same_value : (r v : ℕ) → nat_eq r v ≡ true → v ≡ r
 same_value r v e = grind (arith, nat_tests)
@@ -49,13 +46,6 @@ module _ (registers counts : List ℕ) (i : ℕ) (inside : i < length registers)
   counts_skip large = record {
     each = λ v small. are.each v small ∙ sym (count_by_more_no (λ x. nat_eq x v) registers i 0 inside (not_value (get_or registers i 0) v large small));
   }
-
-  -- a count is at most the number of registers so far
-  pub counts_fit : (v : ℕ) → v < 64 → get_or counts v 0 ≤ i
-  counts_fit v small =
-      let few = count_by-le-length (λ x. nat_eq x v) (take i registers) in
-      let size : length (take i registers) ≡ i = length-take-le i registers (let le : i ≤ length registers = omega (arith, inside) in le) in
-      omega (arith, few, size, are.each v small)
 
 pub counts_all : (registers counts : List ℕ) (i : ℕ) → length registers ≤ i → AreCountsOf (take i registers) counts → AreCountsOf registers counts
 counts_all registers counts i all are = subst (λ R. AreCountsOf R counts) (take_all i registers all) are

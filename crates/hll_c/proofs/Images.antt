@@ -1,6 +1,6 @@
 -- SPDX-License-Identifier: Apache-2.0
 -- Lemmas on images that are read, and on why they are rejected.
-use Rattle.std.proofs.Common.{arith, ◌≡◌, ◌⊎◌, ℕ, ◌<◌, ◌≤◌, List, [], ◌∷◌, ◌++◌, length, map, Some, None, Result, Ok, Err, IfErr, inl, inr, refl, sym, ◌∙◌, ap, subst, append_assoc}
+use Rattle.std.proofs.Common.{◌≡◌, ◌⊎◌, ℕ, ◌<◌, ◌≤◌, List, [], ◌∷◌, ◌++◌, length, map, Some, None, Result, Ok, Err, IfErr, inl, inr, refl, sym, ◌∙◌, ap, subst, append_assoc}
 use Rattle.std.proofs.lemmas.Bool.{cases_lt}
 use Rattle.hll_base.specs.declared.error.Reason.{Reason}
 use Rattle.hll_base.specs.declared.error.Reason.TheVariants.{Argument, Memory}
@@ -66,10 +66,6 @@ refuses_argument InRange image e is not = subst (RefusesWith InRange image) (sym
 -- the size of a structure of another version
 pub refuses_info : (InRange : Type 0) (image : List ℕ) (e : Reason) → e ≡ Argument → (InRange → ⊥) → RefusesInfo InRange image e
 refuses_info InRange image e is not = subst (RefusesInfo InRange image) (sym is) (argument_with_image not, λ full. absurd (cc))
-
-pub no_lg_k : (k : ℕ) → (k < 4) ⊎ (21 < k) → IsLgK k → ⊥
-no_lg_k k (inl low) is = let no : ⊥ = omega (arith, low, is.low) in no
-no_lg_k k (inr high) is = let no : ⊥ = omega (arith, high, is.high) in no
 
 -- a fold that fails after the image was read
 pub refuses_fold : (image : List ℕ) (x : Sketch) (k : ℕ) (e : Reason) → IsLgK k → IsReadAs image x → (e ≡ Argument) ⊎ (e ≡ Memory) → (e ≡ Argument → IsFoldLgK x.lg_k k → ⊥)

@@ -5,6 +5,7 @@ pub mod BytesOrParts
 pub mod ByteRegisters
 pub mod Calls
 pub mod Estimates
+pub mod Head
 pub mod Info
 pub mod StateInfo
 pub mod States

@@ -31,7 +31,7 @@ use hll_coupons::serialization::{TGT_HLL4, TGT_HLL6, extract_tgt_hll_type};
 use hll_registers::image_parts::ImageParts;
 use hll_sketch::borrowed_registers::BorrowedRegisters;
 use hll_sketch::coupon_images::{coupon_image_with, says_registers};
-use hll_sketch::image_size::size_of_image;
+use hll_sketch::image_head::size_of_image;
 use hll_sketch::{
     HllSketch, coupon_image_at, folded_coupon_image, register_image_at, register_image_with,
 };

@@ -20,7 +20,7 @@ use std::alloc::Global;
 const INFO_SIZE: usize = 64;
 
 /// The stage of a list.
-const LIST: u8 = 0;
+pub(crate) const LIST: u8 = 0;
 /// The stage of a set.
 pub(crate) const SET: u8 = 1;
 /// The stage of registers.
@@ -63,7 +63,7 @@ pub struct HllHistogram {
 }
 
 /// Returns a width as a number of bits.
-fn bits_of(width: HllType) -> u8
+pub(crate) fn bits_of(width: HllType) -> u8
     ensures { result ≡ calls.bits_of width }
 {
     match width {

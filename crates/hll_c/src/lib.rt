@@ -24,6 +24,7 @@ ghost use Rattle.hll_c.specs.Batches.{AreEnds, strings, AreOfLength, strings_of_
 ghost use Rattle.hll_c.specs.ByteRegisters.{HaveValues, MergesImageInto, MergesRegistersInto, AddsValues, AddsStrings, AddsCoupons, FoldsInPlace, RefusesRegisters, SaysCounts, IsOfBytes, RefusesBytes};
 ghost use Rattle.hll_c.specs.Calls.{AreNewArguments, IsEmptyAt, IsMadeOf, IsFoldOf, RefusesFold, AsksWidth, IsWidth, IsAtWidth, IsCleared, AreOfCoupon, HasCoupon, HasValues, AreUnionArguments, IsUnionOf, AreBatchArguments, IsUnionOfBatch, SaysAgreement, PutsCoupons, PutsCouponsOf};
 ghost use Rattle.hll_c.specs.Estimates.{SaysEstimate, SaysEstimateOfBytes, SaysEstimateOfCounts, RefusesCounts};
+ghost use Rattle.hll_c.specs.Head.{SaysHead, RefusesHead};
 ghost use Rattle.hll_c.specs.Info.{SaysInfo, SaysHistogram};
 ghost use Rattle.hll_c.specs.StateInfo.{SaysStateInfo, RefusesStateInfo};
 ghost use Rattle.hll_c.specs.States.{MakesState, TakesValues, AddsToState, IsOfState, SaysEstimateOfState, RefusesEstimateOfState, RefusesState, JoinsImage, JoinsState};
@@ -31,6 +32,7 @@ ghost use Rattle.hll_state.specs.Memory.{OfState, IsOnlyRead, IsSettled, KeepsWi
 ghost use Rattle.hll_state.specs.Whole.{IsWhole, LeavesWhole};
 ghost use Rattle.hll_c.specs.Unions.{IsStateOfUnion, ExtendsUnionByImage, ExtendsUnionByState};
 ghost use Rattle.hll_c.specs.declared.estimate.HllEstimate.{HllEstimate};
+ghost use Rattle.hll_c.specs.declared.head.HllHead.{HllHead};
 ghost use Rattle.hll_c.specs.declared.info.HllInfo.{HllInfo};
 ghost use Rattle.hll_c.specs.declared.info.HllHistogram.{HllHistogram};
 ghost use Rattle.hll_c.specs.declared.state_info.HllStateInfo.{HllStateInfo};
@@ -41,6 +43,7 @@ mod batch;
 mod byte_registers;
 mod estimate;
 mod fixed;
+mod head;
 mod image;
 mod info;
 mod join;
@@ -53,10 +56,23 @@ mod union;
 use crate::answer::{code_of, put_bytes, put_bytes_or_parts, put_image, report};
 use crate::batch::put_coupons;
 use crate::estimate::HllEstimate;
+use crate::head::HllHead;
 use crate::info::{HllHistogram, HllInfo};
 use crate::state_info::HllStateInfo;
 use hll_coupons::coupon::Coupon;
 use std::alloc::Global;
+
+/// Writes what the header of an image and the counts after it say into `head`: its `lg_k`, width, stage, flags, count and size, or
+/// which check of them fails. Reads at most the first 40 bytes: 8 of a list, 12 of a set. The bytes after these need not be there,
+/// and are not checked. `size` is the size of the caller's structure in bytes.
+///
+/// Returns `Argument` if `size` is not 24.
+#[unsafe(no_mangle)]
+pub extern "C" fn hll_image_head(image: &[u8], head: &mut HllHead, size: usize) -> u8
+    ensures { Reports HllHead (SaysHead image.now) (RefusesHead (size ≡ 24)) head.old head.new result }
+{
+    report(head::head_of(image, size), head)
+}
 
 /// Writes what an image says into `info`: its `lg_k`, width and stage, the number of its coupons, or the sums and estimator
 /// fields of its registers. `size` is the size of the caller's structure in bytes.
@@ -362,23 +378,6 @@ pub extern "C" fn hll_registers_add_fixed(
     ensures { AddsStrings (AreOfLength (length values.now) value_len) (strings_of_length value_len values.now) registers.old registers.new result }
 {
     fixed::add(registers, values, value_len)
-}
-
-/// Adds values to caller-owned registers: the byte strings in `values` between one offset and the next.
-///
-/// The offsets are signed 32-bit numbers, passed as unsigned ones, so a negative offset is above 2^31 - 1.
-///
-/// Returns `Argument` if there is no offset, if an offset descends, is negative or is after the last byte of `values`, or if
-/// the number of registers is not 2^`lg_k`. Allocates nothing.
-#[unsafe(no_mangle)]
-pub extern "C" fn hll_registers_add_ends32(
-    registers: &mut [u8],
-    values: &[u8],
-    offsets: &[u32],
-) -> u8
-    ensures { AddsStrings (AreOffsets (length values.now) offsets.now) (strings_between offsets.now values.now) registers.old registers.new result }
-{
-    offsets::add(registers, values, offsets)
 }
 
 /// Adds raw coupons to caller-owned registers.

@@ -3,19 +3,13 @@
 //!
 //! The offsets are passed as unsigned numbers with the same bits, so a negative offset is above `MOST`.
 ghost use Rattle.std.specs.Prelude.{◌≡◌, ◌↔◌, ◌^◌, ◌≤◌, ◌-◌, ◌++◌, length, drop, map, IsTrue};
-ghost use Rattle.hll_base.specs.Join.{join};
-ghost use Rattle.hll_coupons.specs.Fold.{fold_to};
 ghost use Rattle.hll_coupons.specs.Hashed.{coupon_of_bytes};
-ghost use Rattle.hll_coupons.specs.Pair.{set_of};
 ghost use Rattle.hll_c.specs.Batches.{AreOffsets, strings_between};
-ghost use Rattle.hll_c.specs.ByteRegisters.{AddsStrings, IsLgKOf};
 ghost use Rattle.hll_c.specs.Calls.{PutsCouponsOf};
 
 use crate::answer::{BUFFER, OK};
-use crate::byte_registers::lg_k_of;
 use hll_base::error::Reason;
 use hll_coupons::coupon::Coupon;
-use hll_sketch::max_coupon;
 
 /// The greatest signed 32-bit number.
 const MOST: usize = 0x7fff_ffff;
@@ -66,32 +60,5 @@ fn put_each(values: &[u8], offsets: &[u32], count: usize, coupons: &mut [u32])
         let start = offsets[number] as usize;
         let end = offsets[number + 1] as usize;
         coupons[number] = Coupon::from_bytes(&values[start..end]).raw();
-    }
-}
-
-/// Adds the coupons of the strings between offsets to caller-owned registers.
-pub(crate) fn add(registers: &mut [u8], values: &[u8], offsets: &[u32]) -> u8
-    ensures { AddsStrings (AreOffsets (length values.now) offsets.now) (strings_between offsets.now values.now) registers.old registers.new result }
-{
-    let Ok(lg_k) = lg_k_of(registers) else {
-        return Reason::Argument.number();
-    };
-    if !are_offsets(offsets, values.len()) {
-        return Reason::Argument.number();
-    }
-    max_each(registers, lg_k, values, offsets);
-    OK
-}
-
-/// Adds the coupons of the strings between offsets to registers.
-fn max_each(registers: &mut [u8], lg_k: u8, values: &[u8], offsets: &[u32])
-    requires lg_k { IsLgKOf registers.old lg_k }
-    requires offsets { AreOffsets (length values.now) offsets.now }
-    ensures { registers.new ≡ join registers.old (fold_to (set_of (map coupon_of_bytes (strings_between offsets.now values.now))) lg_k) }
-{
-    for number in 0..offsets.len() - 1 {
-        let start = offsets[number] as usize;
-        let end = offsets[number + 1] as usize;
-        max_coupon(registers, lg_k, Coupon::from_bytes(&values[start..end]));
     }
 }

@@ -1,6 +1,6 @@
 // SPDX-License-Identifier: Apache-2.0
 //! States of counters in caller-owned memory.
-ghost use Rattle.std.specs.Prelude.{◌≡◌, ◌≢◌, ◌*◌, ◌-◌, ◌^◌, ◌<◌, ◌≤◌, ◌⊎◌, [], ◌∷◌, Some, length, map, IfOk, IfErr};
+ghost use Rattle.std.specs.Prelude.{◌≡◌, ◌≢◌, ◌*◌, ◌-◌, ◌^◌, ◌<◌, ◌≤◌, ◌⊎◌, [], ◌∷◌, true, false, Some, length, map, IfOk, IfErr};
 ghost use Rattle.hll_base.specs.declared.error.Reason.TheVariants.{Memory};
 ghost use Rattle.hll_base.specs.declared.error.Reason.TheVariants as reasons;
 ghost use Rattle.hll_coupons.specs.Hashed.{coupon_of_bytes};
@@ -13,7 +13,7 @@ ghost use Rattle.hll_sketch.specs.Value.{IsLgK, IsLegal};
 ghost use Rattle.hll_state.specs.Counter.{sketch_in, content_of, IsResolved, AreResolved};
 ghost use Rattle.hll_state.specs.Header.{IsWithin, AreWithin, HasRoom};
 ghost use Rattle.hll_state.specs.Header as headers;
-ghost use Rattle.hll_state.specs.Memory.{HasHeader, IsOnlyRead, IsSettled, KeepsWidths};
+ghost use Rattle.hll_state.specs.Memory.{HasHeader, IsStateOf, OfState, IsOnlyRead, IsSettled, KeepsWidths};
 ghost use Rattle.hll_state.specs.Memory.{is_open as is_lg_k_open};
 ghost use Rattle.hll_state.specs.Merged.{HasLegalRegisters};
 ghost use Rattle.hll_state.specs.Registers.{values};
@@ -41,7 +41,8 @@ use hll_registers::registers::Registers;
 use hll_sketch::coupon_images::coupon_image;
 use hll_state::header::{CouponTable, HEADER_LEN, Header, Held};
 use hll_state::memory::{
-    Begun, add_in_place, begin, begin_with, close, has_raised, is_open, open, resolve, set_open,
+    Begun, add_in_place, append, begin, begin_with, close, has_raised, is_open, may_hold_coupons,
+    open, resolve, set_open,
 };
 use hll_state::registers::{as_bytes, small_registers};
 use std::alloc::Global;
@@ -155,10 +156,42 @@ pub(crate) fn add_value(state: &mut [[u8; 4]], value: &[u8], size: &mut usize) -
     ensures lg_k_open { is_lg_k_open state.new ≡ is_lg_k_open state.old }
 {
     let raw = Coupon::from_bytes(value).raw();
+    if may_hold_coupons(state) {
+        return add_few(state, raw, size);
+    }
     if has_raised(state, raw) {
         return OK;
     }
     add_raw(state, raw, size)
+}
+
+/// Adds a raw coupon: to coupons, if there is room for one more, by writing it and what changes in the header.
+#[inline(always)]
+fn add_few(state: &mut [[u8; 4]], raw: u32, size: &mut usize) -> u8
+    ensures added { AddsToState (TakesValues state.old) (raw ∷ []) state.old state.new size.old size.new result }
+    ensures widths { KeepsWidths state.old state.new }
+    ensures lg_k_open { is_lg_k_open state.new ≡ is_lg_k_open state.old }
+{
+    if append_in_place(state, raw) {
+        return OK;
+    }
+    add_raw(state, raw, size)
+}
+
+/// Appends a raw coupon to a state of coupons whose `lg_k` is not open, if there is room. Returns whether it did; if not, nothing
+/// changed.
+#[inline(always)]
+fn append_in_place(state: &mut [[u8; 4]], raw: u32) -> bool
+    ensures decided { result ≡ true → TakesValues state.old }
+    ensures added { result ≡ true → OfState state.old (λ x. IsStateOf state.new (add_in_turn x (raw ∷ []))) }
+    ensures widths { KeepsWidths state.old state.new }
+    ensures lg_k_open { is_lg_k_open state.new ≡ is_lg_k_open state.old }
+    ensures none { result ≡ false → state.new ≡ state.old }
+{
+    match open(state) {
+        Some(header) if !is_open(state) => append(state, header, raw),
+        _ => false,
+    }
 }
 
 /// Adds a raw coupon.
@@ -350,6 +383,21 @@ pub(crate) fn estimate_of(state: &mut [[u8; 4]]) -> Result<HllEstimate, Error>
     let Some(header) = resolve(state) else {
         return Err(Error::new(Reason::Argument));
     };
+    estimate_of_held(header, &state[HEADER_LEN..])
+}
+
+/// Returns the estimate of the sketch of a settled state, of which it writes no byte. Fails with `Argument` if the elements are not
+/// such a state, or with `Register` if a register is above 63.
+pub(crate) fn estimate_of_settled(state: &[[u8; 4]]) -> Result<HllEstimate, Error>
+    ensures ok { IfOk result (SaysEstimateOfState state.now) }
+    ensures err { IfErr result (RefusesState (IsSettled state.now) state.now) }
+{
+    let Some(header) = open(state) else {
+        return Err(Error::new(Reason::Argument));
+    };
+    if !header.is_resolved(&state[HEADER_LEN..]) {
+        return Err(Error::new(Reason::Argument));
+    }
     estimate_of_held(header, &state[HEADER_LEN..])
 }
 

@@ -5,7 +5,7 @@ use Rattle.std.specs.Prelude.{◌==◌, if◌then◌else◌}
 use Rattle.std.specs.Int.{bit_at}
 use Rattle.std.proofs.lemmas.Bool.{cases_eq, cases_lt}
 use Rattle.std.proofs.lemmas.Nat.Bits.{bit_at-zero}
-use Rattle.std.proofs.lemmas.List.{get_or-set_same, get_or-set_other, get_or_past, length-set}
+use Rattle.std.proofs.lemmas.List.{get_or-set_same, get_or-set_other, get_or_past}
 use Rattle.hll_coupons.specs.Blocks.{bit_of, IsNext, IsSummary}
 
 -- ---- one bit is changed
@@ -58,16 +58,6 @@ none_in_rest blocks from r high z j l h =
     let block : j / 64 ≡ from / 64 = omega arith in
     ap (λ q. bit_at (get_or blocks q 0) (j % 64)) block ∙ sym (high (j % 64) (omega arith) (omega arith)) ∙ ap (λ w. bit_at w (j % 64)) z ∙ bit_at-zero (j % 64)
 
--- a bit of the first block is set, from a bit on
-pub next_in_rest : (blocks : List ℕ) (from r p : ℕ) → from / 64 < length blocks → ((j : ℕ) → j < from % 64 → bit_at r j ≡ 0) →
-    ((j : ℕ) → from % 64 ≤ j → j < 64 → bit_at r j ≡ bit_at (get_or blocks (from / 64) 0) j) → p < 64 → bit_at r p ≡ 1 → ((j : ℕ) → j < p → bit_at r j ≡ 0) →
-    IsNext blocks from (64 * (from / 64) + p)
-next_in_rest blocks from r p inside low high small here before =
-    let past : from % 64 ≤ p = elim (cases_lt p (from % 64)) [ inl l ↦ absurd (omega (arith, low p l)) | inr g ↦ g ] in
-    next_in_block blocks from (from / 64) p inside small (omega arith) (sym (high p past small) ∙ here)
-    (λ j l h. sym (high j (omega arith) (omega arith)) ∙ before j h)
-    (λ j l h. absurd (omega arith))
-
 -- ---- by a summary
 
 zero_of : (p b : ℕ) → b ≡ (if p == 0 then 0 else 1) → b ≡ 0 → p ≡ 0
@@ -91,36 +81,3 @@ next_in_summary blocks summary from i p s rest n small here before =
           let high : k < i = omega arith in
           none_in_zero blocks k j (zero_of (get_or blocks k 0) (bit_of summary k) (s.bits k (omega (arith, n.within))) (n.before k low high)) refl
     ])
-
--- ---- a summary after a bit is cleared
-
-empty_bit : (p b : ℕ) → p ≡ 0 → b ≡ 0 → b ≡ (if p == 0 then 0 else 1)
-empty_bit p b z h = grind arith
-
-some_bit : (p q b : ℕ) → b ≡ (if p == 0 then 0 else 1) → 0 < q → q ≤ p → b ≡ (if q == 0 then 0 else 1)
-some_bit p q b e some less = grind arith
-
--- the block has another bit set
-pub summary_kept : (blocks summary : List ℕ) (k v : ℕ) → IsSummary blocks summary → k < length blocks → 0 < v → v ≤ get_or blocks k 0 → IsSummary (set blocks k v) summary
-summary_kept blocks summary k v s inside some less = record {
-  room = omega (arith, s.room, length-set blocks k v);
-  bits = λ i l. elim (cases_eq i k) [
-    | inl e ↦
-        let there : get_or (set blocks k v) i 0 ≡ v = ap (λ q. get_or (set blocks k v) q 0) e ∙ get_or-set_same blocks k v 0 inside in
-        some_bit (get_or blocks i 0) v (bit_of summary i) (s.bits i l) some (omega (arith, less, ap (λ q. get_or blocks q 0) e)) ∙ ap (λ p. if p == 0 then 0 else 1) (sym there)
-    | inr o ↦ s.bits i l ∙ ap (λ p. if p == 0 then 0 else 1) (sym (get_or-set_other blocks k i v 0 o))
-  ];
-}
-
--- the block has no bit set
-pub summary_cleared : (blocks summary new : List ℕ) (k v : ℕ) → IsSummary blocks summary → k < length blocks → v ≡ 0 → length new ≡ length summary → bit_of new k ≡ 0 →
-    ((j : ℕ) → (j ≡ k → ⊥) → bit_of new j ≡ bit_of summary j) → IsSummary (set blocks k v) new
-summary_cleared blocks summary new k v s inside none size same other = record {
-  room = omega (arith, s.room, length-set blocks k v, size);
-  bits = λ i l. elim (cases_eq i k) [
-    | inl e ↦
-        let there : get_or (set blocks k v) i 0 ≡ 0 = ap (λ q. get_or (set blocks k v) q 0) e ∙ get_or-set_same blocks k v 0 inside ∙ none in
-        empty_bit (get_or (set blocks k v) i 0) (bit_of new i) there (ap (bit_of new) e ∙ same)
-    | inr o ↦ other i o ∙ s.bits i (omega (arith, l, size)) ∙ ap (λ p. if p == 0 then 0 else 1) (sym (get_or-set_other blocks k i v 0 o))
-  ];
-}

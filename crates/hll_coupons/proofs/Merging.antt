@@ -128,13 +128,6 @@ pub record WritesRest (xs ys bytes left right : List ℕ) : Type 0 where
   pub is : bytes ≡ coupon_bytes taken
   pub rest : MergesRest xs ys taken left right
 
-merges_none : (xs ys taken : List ℕ) → taken ≡ [] → IsStrictlyIncreasing xs → IsStrictlyIncreasing ys → MergesRest xs ys taken xs ys
-merges_none xs ys taken none up vp = record {
-  left_ascends = subst (λ t. IsStrictlyIncreasing (t ++ xs)) (sym none) up;
-  right_ascends = subst (λ t. IsStrictlyIncreasing (t ++ ys)) (sym none) vp;
-  members = λ q. ap (λ t. has t q || (has xs q || has ys q)) none;
-}
-
 module _ (xs ys taken left right : List ℕ) (rest : MergesRest xs ys taken left right) where
   merges_more : (w : ℕ) → IsLeastFirst w left right → MergesRest xs ys (taken ++ w ∷ []) (without_first w left) (without_first w right)
   merges_more w least =
@@ -188,9 +181,6 @@ module _ (xs ys taken left right : List ℕ) (rest : MergesRest xs ys taken left
   merges_all : left ≡ [] → right ≡ [] → IsAscending taken (union (set_of xs) (set_of ys))
   merges_all no_left no_right =
       subst (λ z. IsAscending z (union (set_of xs) (set_of ys))) (ap (λ z. taken ++ z) no_left ∙ append-nil taken) (merges_left no_right)
-
-pub writes_none : (xs ys bytes : List ℕ) → bytes ≡ [] → IsStrictlyIncreasing xs → IsStrictlyIncreasing ys → WritesRest xs ys bytes xs ys
-writes_none xs ys bytes none up vp = record { taken = []; is = none; rest = merges_none xs ys [] refl up vp }
 
 coupon_bytes-push : (order : List ℕ) (w : ℕ) → coupon_bytes (order ++ w ∷ []) ≡ coupon_bytes order ++ to_le_bytes w32 w
 coupon_bytes-push [] w = refl

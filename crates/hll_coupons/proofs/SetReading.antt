@@ -52,10 +52,6 @@ read_none compact buckets t cursor small none there =
 
 module _ (compact : Bool) (buckets counter lg : ℕ) (all before : List ℕ) (t : Table) (cursor : List ℕ) (so : ReadSoFar compact buckets counter lg all before t cursor) (left : counter < buckets)
     (w : ℕ) (rest : List ℕ) (is : w ≡ from_le_bytes w32 cursor) (rest_is : rest ≡ drop 4 cursor) where
-  -- the set has at most as many coupons as buckets were read
-  pub few_in : length (coupons_in t.buckets) ≤ counter
-  few_in = omega (arith, so.few, so.are.distinct, so.set.table.distinct, ap len so.members)
-
   less : 4 * (buckets - (counter + 1)) ≤ length rest
   less = omega (arith, so.room, ap length rest_is, length-drop 4 cursor, left)
 

@@ -64,16 +64,6 @@ impl<'a> RawCouponIter<'a> {
         Some(u32::from_le_bytes([bytes[0], bytes[1], bytes[2], bytes[3]]))
     }
 
-    /// Removes the next raw coupon, and returns it.
-    pub(crate) fn next(&mut self) -> Option<u32>
-        ensures some { IfSome result (λ raw_coupon. self.old ≡ raw_coupon ∷ self.new) }
-        ensures none { IfNone result (self.old ≡ []) }
-    {
-        let raw_coupon = self.first()?;
-        self.pass(raw_coupon);
-        Some(raw_coupon)
-    }
-
     /// Removes a raw coupon, if it is the next.
     fn pass(&mut self, raw_coupon: u32)
         ensures { self.new ≡ without_first raw_coupon self.old }

@@ -16,10 +16,6 @@ part_below k c le lt =
     let next : (c + 1) * 2 ^ (96 - k) ≤ 2 ^ k * 2 ^ (96 - k) = mul-le-mul_right (2 ^ (96 - k)) (omega arith) in
     omega (arith, whole, next, pow_pos (96 - k))
 
--- the bounds of the weight: it is above 0, and it fits
-pub units_some : (k c u : ℕ) → AreBounded k c u → c * 2 ^ 63 < 2 * u
-units_some k c u a = omega (arith, a.low, a.some)
-
 pub units_small : (k c u : ℕ) → AreBounded k c u → 2 * u ≤ 2 ^ 85
 units_small k c u a = let p : 2 ^ k ≤ 2 ^ 21 = power_small k a.most in omega (arith, a.high, a.some, p)
 

@@ -1,8 +1,8 @@
 -- SPDX-License-Identifier: Apache-2.0
 -- Lemmas on the result of a run.
-use Rattle.std.proofs.Common.{◌≡◌, ℕ, Bool, false, List, Option, Result, Ok, Err, inl, inr, refl, sym, ap, subst, ◌∙◌, ◌++◌}
+use Rattle.std.proofs.Common.{◌≡◌, ℕ, Bool, false, List, Option, Result, Ok, Err, inl, inr, refl, sym, ap, ◌∙◌, ◌++◌}
 use Rattle.std.specs.Io.KnownBytes.{Consumes, IsAtEnd}
-use Rattle.std.specs.Result.{IsErrAnd, MatchResult}
+use Rattle.std.specs.Result.{MatchResult}
 use Rattle.std.specs.Str.Lines.{lines}
 use Rattle.hll_text.specs.declared.fault.MergeError.{MergeError}
 use Rattle.hll_text.specs.Text.{ended_lines, open_line, line_of_rest}
@@ -34,8 +34,3 @@ finished (Err e) s mid failed text pending n reader read end is ended rest =
       stop = Stops-of 0 _ (lines text) s.old s.new s.writer_failed e (whole text pending is)
           (Stops-after 0 n (ended_lines text) (line_of_rest pending) s.old mid s.new failed s.writer_failed e ended rest);
     })
-
--- an error that is passed on
-pub refused_with : {T : Type 0} (P : T → Type 0) (Q : MergeError → Type 0) (r : Result T MergeError) (e : MergeError) → IsErrAnd r (λ f. f ≡ e) → Q e → MatchResult r P Q
-refused_with P Q (Ok x) e h q = absurd h
-refused_with P Q (Err f) e h q = subst Q (sym h) q

@@ -191,15 +191,6 @@ module _ (s : RunningSums) (R B : List ℕ) (are : AreRunningSums s R) where
       omega (arith, are.high, high_units-le R, sums.high, high_units-le B),
     )
 
-    pub AreRunningSums-others : (t : RunningSums) → t.upper ≡ s.upper → t.lower ≡ s.lower → t.others.low ≡ s.others.low + b.low → t.others.high ≡ s.others.high + b.high → AreRunningSums t (R ++ B)
-    AreRunningSums-others t upper lower low high = record {
-      low = omega (arith, ap sum_l upper, ap sum_l lower, low, are.low, sums.low, sum_by-append low_weight R B);
-      high = omega (arith, high, are.high, sums.high, sum_by-append high_weight R B);
-      lower_bytes = omega (arith, ap sum_l lower, are.lower_bytes, length-append R B);
-      upper_lanes = ap length upper ∙ are.upper_lanes;
-      lower_lanes = ap length lower ∙ are.lower_lanes;
-    }
-
 -- the sums in lanes are below those of all values
 pub lanes_fit : (s : RunningSums) (R : List ℕ) → AreRunningSums s R → length R ≤ 2 ^ 21 → (sum_l s.upper < 2 ^ 29) × (sum_l s.lower < 2 ^ 29) × (s.others.low ≤ 2 ^ 52)
 lanes_fit s R are few = (omega (arith, are.low, low_units-le R), omega (arith, are.lower_bytes), omega (arith, are.low, low_units-le R))

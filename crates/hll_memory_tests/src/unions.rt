@@ -1,7 +1,7 @@
 // SPDX-License-Identifier: Apache-2.0
 //! Unions, and calls on several sketches.
 use crate::harness::{Heap, Trial, requests_of, shown, text};
-use crate::sketches::{Shape, coupon_at, shown_sketch, sketch_in, with_buckets};
+use crate::sketches::{Shape, coupon_at, shown_sketch, sketch_in};
 use hll_base::error::Error;
 use hll_base::hll_type::HllType;
 use hll_sketch::coupon_images::coupon_image_with;
@@ -21,8 +21,6 @@ enum UnionCall {
     IntoSketch,
     Reset,
     Update,
-    UpdateImage,
-    UpdateBuckets,
     UpdateNew,
     UpdateValue,
     UnionOf,
@@ -102,16 +100,6 @@ fn taken<'h>(
     mem::replace(union, HllUnion::new(heap, lg_max_k)?).into_sketch(hll_type)
 }
 
-/// Returns an image of coupons with all buckets of its table, and any other image unchanged.
-fn with_all_buckets(alloc: Global, image: &[u8]) -> Result<Vec<u8>, Fault> {
-    match image {
-        [2, _, _, _, lg_arr, ..] => with_buckets(alloc, image, *lg_arr, 40),
-        [3, _, _, _, 5, ..] => with_buckets(alloc, image, 5, 140),
-        [3, _, _, _, lg_arr, ..] => with_buckets(alloc, image, *lg_arr, 1036),
-        _ => Ok(Vec::from_slice(alloc, image)?),
-    }
-}
-
 impl<'h> UnionTrial<'h> {
     /// Returns the image that a call makes from the bytes of an image: of its union, of the union with itself, at another width,
     /// or with a coupon added.
@@ -183,15 +171,10 @@ impl<'h> Trial for UnionTrial<'h> {
                 Some(two) => shown(self.heap, union.update(two)),
                 None => Err(Fault::Stack),
             },
-            UnionCall::UpdateImage => shown(self.heap, union.update_with_image(image)),
             UnionCall::ImageOnce
             | UnionCall::ImageTwice
             | UnionCall::ImageAt
             | UnionCall::ImageWith => self.image_made(image),
-            UnionCall::UpdateBuckets => {
-                let image = with_all_buckets(self.heap.inner(), image)?;
-                shown(self.heap, union.update_with_image(&image))
-            }
             _ => self.given(union),
         }
     }
@@ -229,7 +212,7 @@ const UNIONS: [(u8, Shape, Shape); 13] = [
 ];
 
 /// The calls, and the requests of each on these unions, for 4-bit, 6-bit and 8-bit registers.
-const UNION_CALLS: [(UnionCall, [[u64; 13]; 3]); 16] = [
+const UNION_CALLS: [(UnionCall, [[u64; 13]; 3]); 14] = [
     (
         UnionCall::Clone,
         [[0, 0, 0, 0, 0, 0, 0, 1, 1, 1, 1, 1, 1]; 3],
@@ -254,22 +237,6 @@ const UNION_CALLS: [(UnionCall, [[u64; 13]; 3]); 16] = [
     (
         UnionCall::Update,
         [[0, 1, 1, 0, 0, 1, 1, 1, 1, 0, 0, 0, 1]; 3],
-    ),
-    (
-        UnionCall::UpdateImage,
-        [
-            [0, 2, 1, 0, 0, 2, 9, 9, 3, 0, 6, 8, 3],
-            [0, 2, 1, 0, 0, 2, 1, 1, 1, 0, 0, 0, 1],
-            [0, 2, 1, 0, 0, 2, 1, 1, 1, 0, 0, 0, 1],
-        ],
-    ),
-    (
-        UnionCall::UpdateBuckets,
-        [
-            [0, 2, 1, 0, 0, 2, 9, 9, 3, 0, 6, 8, 3],
-            [0, 2, 1, 0, 0, 2, 1, 1, 1, 0, 0, 0, 1],
-            [0, 2, 1, 0, 0, 2, 1, 1, 1, 0, 0, 0, 1],
-        ],
     ),
     (
         UnionCall::UpdateNew,

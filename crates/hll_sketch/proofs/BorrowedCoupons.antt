@@ -74,10 +74,6 @@ pub none_listed : (xs : List ℕ) → len (set_of xs) ≡ 0 → xs ≡ []
 none_listed [] none = refl
 none_listed (x ∷ xs) none = absurd (true≢false (sym (inserted (set_of xs) x) ∙ ap (λ S. contains S x) (empty_of_len (set_of (x ∷ xs)) none) ∙ contains-empty nat_cmp x))
 
--- no raw coupons are coupons
-pub no_coupons : AreCoupons []
-no_coupons = record { valued = λ i d within. absurd (omega (arith, within)); distinct = len-empty nat_cmp }
-
 -- ---- ascending raw coupons
 
 -- a number below all numbers of a list is not in it

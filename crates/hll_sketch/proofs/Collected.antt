@@ -77,10 +77,6 @@ pub some_listed : (W : List ℕ) → (length W ≡ 0 → ⊥) → len (set_of W)
 some_listed [] some none = some refl
 some_listed (c ∷ cs) some none = some_first c cs (empty_of_len (set_of (c ∷ cs)) none)
 
-pub added_as : (g : Sketch) (W : List ℕ) → (length W ≡ 0 → ⊥) → add g (set_of W) ≡ with_coupons g W
-added_as g [] some = absurd (some refl)
-added_as g (c ∷ cs) some = refl
-
 pub added_none : (g : Sketch) (W : List ℕ) → length W ≡ 0 → g ≡ with_coupons g W
 added_none g [] none = refl
 added_none g (c ∷ cs) none = absurd (omega (arith, none))

@@ -13,7 +13,7 @@ use Rattle.hll_coupons.specs.Coupons.{coupon_bytes, AreCoupons, IsAscending, Wri
 use Rattle.hll_coupons.proofs.Ascending.{len-ascending}
 use Rattle.hll_coupons.proofs.Merging.{count_in_bytes}
 use Rattle.hll_sketch.specs.Adding.{add, content_for, content_with}
-use Rattle.hll_sketch.specs.CouponImages.{IsInOrder, order_of, IsOrdered, IsOrderedImage, HaveUnionInTable, IsImageOfUnion, HasCouponsAt, IsImageOfUnionOfOne, AreBothRead, IsImageAt, IsFoldedImage, IsImageOfBoth, IsImageWith}
+use Rattle.hll_sketch.specs.CouponImages.{IsInOrder, order_of, IsOrdered, IsOrderedImage, HaveUnionInTable, IsImageOfUnion, HasCouponsAt, IsImageOfUnionOfOne, AreBothRead, IsFoldedImage, IsImageOfBoth, IsImageWith}
 use Rattle.hll_sketch.specs.Folding.{folded, folded_content}
 use Rattle.hll_sketch.specs.Header.{header_of}
 use Rattle.hll_sketch.specs.declared.coupon_images.OrderedImage.{OrderedImage}
@@ -217,16 +217,6 @@ module _ (k size : ℕ) (b xs : List ℕ) (of : IsInOrder b k size xs) where
   own_order : IsAscending xs (set_of xs)
   own_order = record { increasing = of.ascends; members = refl }
 
-  -- what is written at a width
-  pub image_at : (width : HllType) (image : List ℕ) → image ≡ coupon_image k width size xs → IsImageAt width b image
-  image_at width image is = record {
-    sketch = of.sketch;
-    read = of.read;
-    in_table = ap in_registers of.content;
-    written = subst (λ (c : Content). Written image (record of.sketch { width = width; content = c })) (sym of.content)
-        (record { order = xs; ascending = own_order; is = is ∙ ap (λ n. coupon_image n width size xs) (sym of.lg_k) });
-  }
-
   -- what is written for the fold
   pub image_folded : (e size_at : ℕ) (width : HllType) (image : List ℕ) → of.sketch.width ≡ width → IsLgK e → e ≤ k → stage e 3 (length xs) ≡ Some size_at
       → image ≡ coupon_image e width size_at xs → IsFoldedImage e b image
@@ -275,9 +265,6 @@ module _ (k own size : ℕ) (b xs : List ℕ) (of : IsInOrder b own size xs) whe
         in_table = ap (λ (z : Sketch). in_registers z.content) whole;
         written = subst (λ (z : Sketch). Written image (record z { width = width })) (sym whole) (record { order = xs; ascending = own_order own size b xs of; is = is ∙ ap (λ n. coupon_image n width size xs) same });
       }
-
-  pub one_read_at : own ≡ k → IsLgK own → IsLgK k × (x : Sketch) × IsReadAs b x
-  one_read_at same legal = (subst IsLgK same legal, of.sketch, of.read)
 
   -- it is not at the bound
   pub at_other : (own ≡ k → ⊥) → HasCouponsAt k b → ⊥

@@ -10,7 +10,7 @@ use Rattle.hll_base.specs.declared.hll_type.HllType.TheVariants.{Hll4, Hll6, Hll
 use Rattle.hll_coupons.proofs.Payloads.{front_set_coupons, front_set_buckets}
 use Rattle.hll_coupons.proofs.Reading.{coupons_in-list_table, list_coupons-front}
 use Rattle.hll_kernels.specs.Packed.{fields}
-use Rattle.hll_registers.specs.Payload.{state_at, field_size, IsHll8Payload, IsHll6Payload, Hll4Shape, hll4_size, registers_of, shape_of_hll4, HasEntries, IsHll4Payload, IsWhole, Hll4Fault, FirstHll4Fault}
+use Rattle.hll_registers.specs.Payload.{state_at, field_size, IsHll8Payload, IsHll6Payload, Hll4Shape, hll4_size, registers_of, shape_of_hll4, HasEntries, IsHll4Payload, IsWhole, FirstHll4Fault}
 use Rattle.hll_registers.specs.Payload as payloads
 use Rattle.hll_registers.specs.declared.aux_format.AuxFormat.TheVariants.{Compact, Updatable}
 use Rattle.hll_base.specs.declared.error.Reason.{Reason}
@@ -214,17 +214,6 @@ whole_as k m q false bytes w = w
 pub payload_as : (k m q : ℕ) (c : Bool) (bytes : List ℕ) → IsHll4Payload (with_format k m c q) bytes → IsHll4Payload (with_flag k m c q) bytes
 payload_as k m q true bytes p = record { low = p.low; has_entries = entries_as k m q true bytes p.has_entries; size = p.size; are_entries = p.are_entries; number = p.number; agree = p.agree }
 payload_as k m q false bytes p = p
-
-pub fault_as : (k m q : ℕ) (c : Bool) (bytes : List ℕ) (r : Reason) → Hll4Fault (with_format k m c q) bytes r → Hll4Fault (with_flag k m c q) bytes r
-fault_as k m q true bytes r (payloads.Hll4Fault.no_counts a) = payloads.Hll4Fault.no_counts a
-fault_as k m q true bytes r (payloads.Hll4Fault.low_count_above a l) = payloads.Hll4Fault.low_count_above a l
-fault_as k m q true bytes r (payloads.Hll4Fault.exceptions_above a l) = payloads.Hll4Fault.exceptions_above a l
-fault_as k m q true bytes r (payloads.Hll4Fault.table a l e x y) = absurd (true≢false e)
-fault_as k m q true bytes r (payloads.Hll4Fault.short h l) = payloads.Hll4Fault.short (entries_as k m q true bytes h) l
-fault_as k m q true bytes r (payloads.Hll4Fault.coupon h l n) = payloads.Hll4Fault.coupon (entries_as k m q true bytes h) l n
-fault_as k m q true bytes r (payloads.Hll4Fault.number h l n) = payloads.Hll4Fault.number (entries_as k m q true bytes h) l n
-fault_as k m q true bytes r (payloads.Hll4Fault.register h l e x n) = payloads.Hll4Fault.register (entries_as k m q true bytes h) l e x n
-fault_as k m q false bytes r f = f
 
 pub first_as : (k m q : ℕ) (c : Bool) (bytes : List ℕ) (r : Reason) → FirstHll4Fault (with_format k m c q) bytes r → FirstHll4Fault (with_flag k m c q) bytes r
 first_as k m q true bytes r (payloads.FirstHll4Fault.no_counts a) = payloads.FirstHll4Fault.no_counts a

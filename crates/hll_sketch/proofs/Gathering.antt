@@ -51,15 +51,6 @@ pub record GatheredSoFar (index total count : ℕ) (bytes cursor room : List ℕ
   pub size : length room ≡ 512
   pub gathered : count ≤ 128 → raw_coupons count room ≡ coupons_in (raw_coupons index bytes)
 
-pub gathered_none : (total : ℕ) (bytes cursor room : List ℕ) → cursor ≡ bytes → 4 * total ≤ length bytes → length room ≡ 512 → GatheredSoFar 0 total 0 bytes cursor room
-gathered_none total bytes cursor room is there size = record {
-  after = is;
-  left = omega (arith, there, ap length is);
-  number = refl;
-  size = size;
-  gathered = λ _. refl;
-}
-
 module _ (index total count : ℕ) (bytes cursor room : List ℕ) (so : GatheredSoFar index total count bytes cursor room) (less : index < total)
     (w : ℕ) (rest new : List ℕ) (is : w ≡ from_le_bytes w32 cursor) (rest_is : rest ≡ drop 4 cursor) where
   after_more : rest ≡ drop (4 * (index + 1)) bytes

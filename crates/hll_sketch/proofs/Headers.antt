@@ -2,8 +2,7 @@
 -- Lemmas on the header of an image.
 use Rattle.std.proofs.Common.{◌≡◌, ℕ, zero, suc, ◌/◌, ◌%◌, ◌<◌, ◌≤◌, true, false, List, length, refl, sym, ap, subst, ◌∙◌, arith}
 use Rattle.std.proofs.lemmas.Bool.{true≢false}
-use Rattle.hll_base.specs.declared.hll_type.HllType.TheVariants.{Hll8}
-use Rattle.hll_sketch.specs.Image.{byte, width_of_bits, HasHeader}
+use Rattle.hll_sketch.specs.Image.{byte, HasHeader}
 use Rattle.hll_sketch.specs.Header.{stage_of_bits, number_of_stage}
 
 -- a test that failed shows that what it tests does not hold
@@ -29,11 +28,3 @@ number_of_stage_of_bits zero h = refl
 number_of_stage_of_bits (suc zero) h = refl
 number_of_stage_of_bits (suc (suc zero)) h = refl
 number_of_stage_of_bits (suc (suc (suc n))) h = absurd (omega arith)
-
--- ---- widths and their bits
-
-pub bits_of_eight : (n : ℕ) → n < 3 → width_of_bits n ≡ Hll8 → n ≡ 2
-bits_of_eight zero h e = absurd (cc)
-bits_of_eight (suc zero) h e = absurd (cc)
-bits_of_eight (suc (suc zero)) h e = refl
-bits_of_eight (suc (suc (suc n))) h e = absurd (omega arith)

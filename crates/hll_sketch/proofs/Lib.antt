@@ -21,7 +21,8 @@ pub mod Gadgets
 pub mod Gathering
 pub mod Headers
 mod ImageRegisters
-mod ImageSizes
+pub mod CountChecks
+pub mod ImageSizes
 pub mod Images
 mod ImagesOfCoupons
 pub mod InPlace

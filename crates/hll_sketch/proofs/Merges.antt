@@ -4,7 +4,7 @@ use Rattle.std.proofs.Common.{◌≡◌, ◌+◌, ℕ, ◌-◌, ◌^◌, ◌≤�
 use Rattle.std.specs.Prelude.{min}
 use Rattle.std.specs.FinSet.{empty, union, len, empty_of_len, len-empty}
 use Rattle.std.specs.Ordering.{nat_cmp}
-use Rattle.std.proofs.lemmas.Bool.{cases_Bool, cond-true, cond-false, and_parts, eqb-true, eq-eqb, ne_eqb, le-leb, lt-leb, true≢false}
+use Rattle.std.proofs.lemmas.Bool.{cases_Bool, cond-true, cond-false, and_parts, eqb-true, eq-eqb, ne_eqb, le-leb, true≢false}
 use Rattle.std.specs.Option.{unwrap_or}
 use Rattle.hll_coupons.specs.AuxMap.{ExceptionMap}
 use Rattle.hll_coupons.specs.Pair.{Pairs, set_of}
@@ -19,20 +19,18 @@ use Rattle.hll_registers.specs.declared.estimate_state.EstimateState.{EstimateSt
 use Rattle.hll_registers.specs.State.{cleared_state}
 use Rattle.hll_registers.specs.Store.{Stored, merge_with}
 use Rattle.hll_sketch.specs.Stage.{can_hold, stage}
-use Rattle.hll_sketch.specs.Value.{Sketch, Content, coupons, registers, pairs_in, pairs_of, is_empty, in_registers, IsTableFor, IsLgK}
-use Rattle.hll_sketch.specs.Adding.{add, content_for, content_with}
-use Rattle.hll_sketch.specs.Layout.{Layout, list, set, array, SketchLayout, content_in, count_in, width_of, sketch_of, IsSize}
+use Rattle.hll_sketch.specs.Value.{Sketch, Content, coupons, registers, pairs_in, pairs_of, is_empty, in_registers, IsLgK}
+use Rattle.hll_sketch.specs.Adding.{add}
+use Rattle.hll_sketch.specs.Layout.{Layout, list, set, array, SketchLayout, content_in, count_in, width_of, sketch_of}
 use Rattle.hll_sketch.specs.Union.{IsGadget, coupons_kept, can_hold_all, ContentNeedsMemory}
 use Rattle.hll_sketch.specs.Joined.{least_lg_k}
 use Rattle.hll_sketch.specs.Laws.{add_in_turn}
 use Rattle.hll_sketch.specs.Merging.{merge, merge_all, merge_content, merge_coupons, max_registers, merge_registers, state_after_merge}
 use Rattle.hll_sketch.proofs.Adding.{add_each, least-merge}
-use Rattle.hll_coupons.proofs.Collecting.{len-union_longer, len-union_none}
+use Rattle.hll_coupons.proofs.Collecting.{len-union_none}
 use Rattle.hll_sketch.proofs.Gadgets.{false_unless}
-use Rattle.hll_coupons.proofs.Unions.{set_of-nil, union-empty, union_none}
+use Rattle.hll_coupons.proofs.Unions.{set_of-nil, union-empty}
 use Rattle.hll_sketch.proofs.LegalSketches.{found_in_range}
-use Rattle.hll_sketch.proofs.Stages.{holds_fewer}
-use Rattle.hll_sketch.proofs.Steps.{stage_stays}
 
 -- the maximum is taken in place
 pub maxed_in_place : (g : Sketch) (x : Stored) (k : ℕ) (R : List ℕ) → g.content ≡ registers x.registers x.state → x.lg_k ≡ g.lg_k → g.lg_k ≤ 21 → length x.registers ≡ 2 ^ x.lg_k → x.lg_k ≤ k →
@@ -95,54 +93,14 @@ stays_held k p q n e = elim (cases_Bool (leb p 3 && can_hold 3 n)) [
 
 -- ---- coupons in turn, where there is room for all
 
-pub lg_k-add_in_turn : (x : Sketch) (ys : List ℕ) → (add_in_turn x ys).lg_k ≡ x.lg_k
-lg_k-add_in_turn x [] = refl
-lg_k-add_in_turn x (y ∷ ys) = lg_k-add_in_turn (add x (set_of (y ∷ []))) ys
-
-pub width-add_in_turn : (x : Sketch) (ys : List ℕ) → (add_in_turn x ys).width ≡ x.width
-width-add_in_turn x [] = refl
-width-add_in_turn x (y ∷ ys) = width-add_in_turn (add x (set_of (y ∷ []))) ys
-
 pub added_more : (x : Sketch) (ys : List ℕ) (c : ℕ) → add_in_turn x (ys ++ c ∷ []) ≡ add (add_in_turn x ys) (set_of (c ∷ []))
 added_more x [] c = refl
 added_more x (y ∷ ys) c = added_more (add x (set_of (y ∷ []))) ys c
 
-registers_in_turn : (g : Sketch) (ys : List ℕ) → in_registers g.content ≡ true → in_registers (add_in_turn g ys).content ≡ true
-registers_in_turn g [] h = h
-registers_in_turn g (y ∷ ys) h = registers_in_turn (add g (set_of (y ∷ []))) ys (stay g.content h)
-  where
-    stay : (c : Content) → in_registers c ≡ true → in_registers (content_with g.lg_k c (set_of (y ∷ []))) ≡ true
-    stay (coupons S p) h = absurd (cc)
-    stay (registers R s) h = refl
-
--- the size is kept
-in_turn_stays : (g : Sketch) (S : Pairs) (p : ℕ) (ys zs : List ℕ) → g.content ≡ coupons S p → IsSize g.lg_k p → can_hold p (len (union S (set_of (ys ++ zs)))) ≡ true →
-    (add_in_turn g ys).content ≡ coupons (union S (set_of ys)) p
-in_turn_stays g S p [] zs is size room = is ∙ ap (λ T. coupons T p) (sym (union_none S))
-in_turn_stays g S p (y ∷ ys) zs is size room =
-    let T : Pairs = set_of (y ∷ ys) in
-    ap (λ (x : Sketch). x.content) (add_each g y ys) ∙ ap (λ c. content_with g.lg_k c T) is
-    ∙ ap (content_for g.lg_k (union S T)) (stage_stays g.lg_k p (len (union S T)) size (holds_fewer p (len (union S T)) (len (union S (set_of ((y ∷ ys) ++ zs)))) (len-union_longer S (y ∷ ys) zs) room))
-
-size_of_legal : (k n p : ℕ) → IsTableFor k n p → IsSize k p
-size_of_legal k n p (inl few) = inl few.0
-size_of_legal k n p (inr large) = inr (large.0, large.1)
-
 -- ---- what the code makes
-
--- the estimate state of registers in a copy
-pub state_kept : (bound : ℕ) (g : Sketch) (k : ℕ) (s : EstimateState) → is_empty g ≡ true → k ≤ bound → s ≡ state_after_merge bound g k s
-state_kept bound g k s none below = sym (ap (λ b. cond (b && leb k bound) s cleared_state) none ∙ cond-true (leb k bound) s cleared_state (le-leb k bound below))
 
 pub state_gone : (bound : ℕ) (g : Sketch) (k : ℕ) (s : EstimateState) → is_empty g ≡ false → cleared_state ≡ state_after_merge bound g k s
 state_gone bound g k s some = sym (ap (λ b. cond (b && leb k bound) s cleared_state) some)
-
-pub state_gone_above : (bound : ℕ) (g : Sketch) (k : ℕ) (s : EstimateState) → bound < k → cleared_state ≡ state_after_merge bound g k s
-state_gone_above bound g k s above = sym (ap (λ b. cond (is_empty g && b) s cleared_state) (lt-leb k bound above) ∙ never (is_empty g))
-  where
-    never : (b : Bool) → cond (b && false) s cleared_state ≡ cleared_state
-    never true = refl
-    never false = refl
 
 pub max_aside_as : (x y : SketchLayout) (a b source : Stored) (l : ℕ) → x ≡ y → width_of y.layout ≡ Hll8 → l ≡ min x.lg_k source.lg_k →
     a ≡ record { lg_k = l; registers = fold_to (pairs_in (content_in x.layout)) l; state = cleared_state } → b ≡ merge_with a source.registers →

@@ -102,11 +102,6 @@ pub IfNone_then : {X : Type 0} (r : Option X) {P Q : Type 0} → IfNone r P → 
 IfNone_then None h f = f h
 IfNone_then (Some x) h f = tt
 
--- what holds for each error
-pub IfErr-each : {T E : Type 0} (r : Result T E) {P : E → Type 0} → ((e : E) → P e) → IfErr r P
-IfErr-each (Ok x) h = tt
-IfErr-each (Err e) h = h e
-
 -- two clauses of one error
 pub both_err : {T E : Type 0} (r : Result T E) (P Q : E → Type 0) → IfErr r P → IfErr r Q → IfErr r (λ e. P e × Q e)
 both_err (Ok x) P Q p q = tt

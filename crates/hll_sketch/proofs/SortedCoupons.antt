@@ -1,6 +1,6 @@
 -- SPDX-License-Identifier: Apache-2.0
 -- Raw coupons that are read into numbers, sorted, and written as raw coupons.
-use Rattle.std.proofs.Common.{◌≡◌, ℕ, ◌+◌, ◌-◌, ◌*◌, ◌^◌, ◌<◌, ◌≤◌, true, List, [], ◌∷◌, ◌++◌, length, take, drop, set, inl, inr, refl, sym, ap, subst, ◌∙◌, arith}
+use Rattle.std.proofs.Common.{◌≡◌, ℕ, ◌+◌, ◌-◌, ◌*◌, ◌^◌, ◌<◌, ◌≤◌, true, List, [], ◌∷◌, ◌++◌, length, take, drop, set, inl, inr, sym, ap, subst, ◌∙◌, arith}
 use Rattle.std.specs.Ordering.{nat_cmp}
 use Rattle.std.specs.List.Sorted.{IsSorted, IsPermutation, IsStrictlyIncreasing}
 use Rattle.std.proofs.lemmas.Bool.{true≢false}
@@ -26,9 +26,6 @@ pub record ReadSoFar (index count : ℕ) (b cursor numbers : List ℕ) : Type 0 
   pub left : 4 * (count - index) ≤ length cursor
   pub size : length numbers ≡ 128
   pub read : take index numbers ≡ raw_coupons index b
-
-pub read_none : (count : ℕ) (b cursor numbers : List ℕ) → cursor ≡ b → 4 * count ≤ length b → length numbers ≡ 128 → ReadSoFar 0 count b cursor numbers
-read_none count b cursor numbers is there size = record { after = is; left = omega (arith, there, ap length is); size = size; read = refl }
 
 pub read_more : (index count : ℕ) (b cursor numbers : List ℕ) → ReadSoFar index count b cursor numbers → index < count → count ≤ 128 →
     (w : ℕ) (rest : List ℕ) → w ≡ from_le_bytes w32 cursor → rest ≡ drop 4 cursor → ReadSoFar (index + 1) count b rest (set numbers index w)

@@ -82,9 +82,3 @@ pub stage_none : (k p n m : ℕ) → n ≤ m → stage k p n ≡ None → stage 
 stage_none k p n m le e = none_more p n m (sizes k) le e
 
 -- ---- from a list on
-
--- below 8 there is no set
-pub stage_low : (k n : ℕ) → k ≤ 7 → 8 ≤ n → stage k 3 n ≡ None
-stage_low k n low many =
-    cond-false (leb n 7) (Some 3) (find (fits 3 n) (range_with_len 5 (k - 7))) (lt-leb n 7 (omega arith))
-    ∙ ap (λ m. find (fits 3 n) (range_with_len 5 m)) (let none : k - 7 ≡ 0 = omega arith in none)

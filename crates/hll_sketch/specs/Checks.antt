@@ -1,7 +1,7 @@
 -- SPDX-License-Identifier: Apache-2.0
 -- The checks of an image in their order, and the first that fails (docs/FORMAT.md, "Order of checks"; docs/MODEL.md,
 -- "Faults of images").
-use Rattle.std.specs.Prelude.{◌≡◌, ℕ, zero, suc, ◌+◌, ◌*◌, ◌^◌, ◌%◌, ◌==◌, ◌↔◌, Bool, true, ◌&&◌, ◌||◌, if◌then◌else◌, nat_le, nat_lt, List, [], ◌∷◌, ◌++◌, length, drop, take, map, Option, Some, None}
+use Rattle.std.specs.Prelude.{◌≡◌, ℕ, zero, suc, ◌+◌, ◌*◌, ◌^◌, ◌%◌, ◌==◌, ◌↔◌, Bool, true, ◌&&◌, ◌||◌, if◌then◌else◌, nat_le, nat_lt, List, [], ◌∷◌, ◌++◌, ◌-◌, length, drop, take, map, Option, Some, None}
 use Rattle.std.specs.Bool.{beq}
 use Rattle.std.specs.List.{list_all}
 use Rattle.std.specs.FinSet.{len}
@@ -148,6 +148,19 @@ size_fault b = first_failing (header_checks b ++ (checks_after b).size)
 -- the first fault of an image
 abbrev pub first_fault : List ℕ → Option Reason
 first_fault b = first_failing (header_checks b ++ ((checks_after b).size ++ (checks_after b).content))
+
+-- ---- the head of an image: its header and its counts
+
+abbrev pub before_last : List Check → List Check
+before_last cs = take (length cs - 1) cs
+
+-- the checks of the fields and counts that determine the size: all that come before whether the image has all its bytes
+abbrev pub checks_of_counts : Checks → List Check
+checks_of_counts cs = before_last cs.size
+
+-- the first fault of the counts after a header
+abbrev pub count_fault : List ℕ → Option Reason
+count_fault b = first_failing (checks_of_counts (checks_after b))
 
 -- ---- laws
 

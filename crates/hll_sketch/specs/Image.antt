@@ -1,12 +1,12 @@
 -- SPDX-License-Identifier: Apache-2.0
 -- The grammar of images, by cases (docs/FORMAT.md, "The image"; docs/MODEL.md, "Images").
-use Rattle.std.specs.Prelude.{◌≡◌, ℕ, ◌+◌, ◌*◌, ◌^◌, ◌/◌, ◌%◌, ◌≤◌, ◌<◌, ◌==◌, Bool, if◌then◌else◌, List, length, take, drop, slice_index, All, ◌++◌}
+use Rattle.std.specs.Prelude.{◌≡◌, ◌⊎◌, true, ℕ, ◌+◌, ◌*◌, ◌^◌, ◌/◌, ◌%◌, ◌≤◌, ◌<◌, ◌==◌, Bool, if◌then◌else◌, List, length, take, drop, slice_index, All, ◌++◌}
 use Rattle.hll_coupons.specs.Pair.{set_of}
-use Rattle.hll_coupons.specs.Payload.{ListShape, shape_of_list, list_buckets, list_coupons, IsListPayload, SetShape, set_buckets, set_coupons, IsSetPayload}
+use Rattle.hll_coupons.specs.Payload.{ListShape, shape_of_list, list_buckets, list_coupons, IsListPayload, SetShape, set_count, set_buckets, set_coupons, IsSetPayload}
 use Rattle.hll_base.specs.declared.hll_type.HllType.{HllType}
 use Rattle.hll_base.specs.declared.hll_type.HllType.TheVariants.{Hll4, Hll6, Hll8}
 use Rattle.hll_kernels.specs.Packed.{fields}
-use Rattle.hll_registers.specs.Payload.{state_at, field_size, hll4_size, IsHll8Payload, IsHll6Payload, Hll4Shape, registers_of, IsHll4Payload}
+use Rattle.hll_registers.specs.Payload.{state_at, exception_count, field_size, hll4_size, IsHll8Payload, IsHll6Payload, Hll4Shape, registers_of, IsHll4Payload}
 use Rattle.hll_sketch.specs.Value.{Sketch, coupons, registers, IsLgK, IsLegal}
 
 -- ---- the header, eight bytes
@@ -74,6 +74,10 @@ hll4_shape b = record { lg_k = lg_k_byte b; minimum = state_byte b; compact = is
 pub record HasSetTable (b : List ℕ) : Type 0 where
   pub low : 5 ≤ table_byte b
   pub high : table_byte b + 3 ≤ lg_k_byte b
+
+-- exceptions of 4-bit registers that lie in a table lie in one of at most 2^26 buckets
+abbrev pub HasExceptionTable : List ℕ → Type 0
+HasExceptionTable b = (is_flagged 8 b ≡ true) ⊎ ((exception_count (drop 8 b) ≡ 0) ⊎ (table_byte b ≤ 26))
 
 -- ---- what an image means
 
@@ -155,6 +159,12 @@ asked_size b =
     else (if stage_bits b == 1 then 12 + 4 * set_buckets (set_shape b) (drop 8 b)
     else (if width_bits b == 0 then 8 + hll4_size (hll4_shape b) (drop 8 b)
     else (if width_bits b == 1 then 40 + field_size (lg_k_byte b) else 40 + 2 ^ lg_k_byte b)))
+
+-- the count of its coupons, or of the exceptions of its registers
+abbrev pub asked_count : List ℕ → ℕ
+asked_count b =
+    if stage_bits b == 0 then state_byte b
+    else (if stage_bits b == 1 then set_count (drop 8 b) else exception_count (drop 8 b))
 
 -- the first n bytes are an image
 pub record IsSizeOfImage (b : List ℕ) (n : ℕ) : Type 0 where

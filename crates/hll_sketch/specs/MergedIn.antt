@@ -1,6 +1,6 @@
 -- SPDX-License-Identifier: Apache-2.0
 -- Images that are merged into a union (docs/MODEL.md, "Merging").
-use Rattle.std.specs.Prelude.{◌≡◌, ℕ, ◌^◌, ◌<◌, ◌≤◌, ◌==◌, if◌then◌else◌, true, List, [], ◌∷◌, ◌++◌, drop, length, All, Some, None}
+use Rattle.std.specs.Prelude.{◌≡◌, ℕ, ◌^◌, ◌<◌, ◌≤◌, ◌==◌, if◌then◌else◌, true, List, drop, length, All, Some, None}
 use Rattle.hll_base.specs.declared.error.Reason.TheVariants.{Register}
 use Rattle.hll_arrays.specs.FewExceptions.{registers_with, HasExceptions}
 use Rattle.hll_coupons.specs.Coupons.{raw_coupons}
@@ -11,22 +11,8 @@ use Rattle.hll_registers.specs.Store.{Stored}
 use Rattle.hll_registers.specs.declared.estimate_state.EstimateState.{EstimateState}
 use Rattle.hll_sketch.specs.Borrowed.{AreEvidentlyCoupons}
 use Rattle.hll_sketch.specs.Checks.{first_fault, size_fault}
-use Rattle.hll_sketch.specs.Canonical.{IsCanonicalCleared}
 use Rattle.hll_sketch.specs.Image.{IsReadAs, stage_bits, width_bits, width_of_bits, state_byte, is_flagged}
-use Rattle.hll_sketch.specs.Joined.{IsMergeOf}
-use Rattle.hll_sketch.specs.Merging.{merge}
-use Rattle.hll_sketch.specs.Union.{UnionLayout, gadget_of, MergeNeedsMemory}
-use Rattle.hll_sketch.specs.Updatable.{HasUpdatableCoupons}
-use Rattle.hll_sketch.specs.Value.{Sketch, IsLgK, coupons, registers, in_registers}
-
--- The sketch that an image is read as was merged into a union. If the union was that of canonical sketches with cleared fields,
--- and the sketch is one, it is now the union of all of them.
-pub record MergesIn (before after : UnionLayout) (image : List ℕ) : Type 0 where
-  pub sketch : Sketch
-  pub read : IsReadAs image sketch
-  pub gadget : gadget_of after ≡ merge before.lg_max_k (gadget_of before) sketch
-  pub bound : after.lg_max_k ≡ before.lg_max_k
-  pub canonical : (xs : List Sketch) → IsMergeOf xs before → IsCanonicalCleared sketch → IsMergeOf (xs ++ sketch ∷ []) after
+use Rattle.hll_sketch.specs.Value.{Sketch, IsLgK, coupons, registers}
 
 -- the bytes are read as a sketch of these coupons in a list or a set
 pub record IsOfCoupons (bytes order : List ℕ) : Type 0 where
@@ -76,12 +62,3 @@ pub record HasCompactCoupons (b : List ℕ) : Type 0 where
 -- the header is that of registers, and if they are 4-bit registers, the count of their exceptions is 0
 abbrev pub HasPlainRegisters : List ℕ → Type 0
 HasPlainRegisters b = (stage_bits b ≡ 2) × (width_bits b ≡ 0 → exception_count (drop 8 b) ≡ 0)
-
--- Merging an image into a gadget may need an allocation only if its header, counts and length are right. For a gadget of
--- registers it needs none for compact coupons that ascend or are few, and none for an updatable image of few coupons. For 8-bit
--- or 6-bit registers, and for 4-bit registers without exceptions, it needs what merging their sketch does.
-pub record ImageNeedsMemory (g : Sketch) (b : List ℕ) : Type 0 where
-  pub sized : size_fault b ≡ None
-  pub coupons : in_registers g.content ≡ true → HasCompactCoupons b → ⊥
-  pub buckets : in_registers g.content ≡ true → HasUpdatableCoupons b → ⊥
-  pub registers : HasPlainRegisters b → (x : Sketch) → IsReadAs b x → MergeNeedsMemory g x

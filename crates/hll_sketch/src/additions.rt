@@ -5,7 +5,6 @@ ghost use Rattle.std.specs.Prelude.{◌≡◌, ◌^◌, ◌<◌, ◌≤◌, nat_
 ghost use Rattle.std.specs.FinSet.{len, union};
 ghost use Rattle.hll_base.specs.declared.error.Reason.TheVariants.{Memory};
 ghost use Rattle.hll_base.specs.declared.hll_type.HllType.TheVariants.{Hll8};
-ghost use Rattle.hll_coupons.specs.Coupons.{raw_coupons};
 ghost use Rattle.hll_coupons.specs.Table.{coupons_of};
 ghost use Rattle.hll_registers.specs.State.{cleared_state};
 ghost use Rattle.hll_sketch.specs.Adding.{add, content_with};
@@ -151,20 +150,6 @@ impl<A: Allocator + Clone> HllSketch<A> {
             Mode::List { list, .. } => count_with(list, table),
             Mode::Set { set, .. } => set.count_with(table),
             Mode::Array4(_) | Mode::Array6(_) | Mode::Array8(_) => table.len(),
-        }
-    }
-
-    /// Adds coupons in turn to 8-bit registers.
-    pub(crate) fn add_in_turn(&mut self, coupons: &RawCoupons<'_>)
-        requires width { width_of self.old.layout ≡ Hll8 }
-        requires inside { in_registers (content_in self.old.layout) ≡ true }
-        ensures { sketch_of self.new ≡ laws.add_in_turn (sketch_of self.old) (raw_coupons coupons.now.count coupons.now.bytes.now) }
-    {
-        match &mut self.mode {
-            Mode::Array8(array) => coupons.add_to(array),
-            Mode::List { .. } | Mode::Set { .. } | Mode::Array4(_) | Mode::Array6(_) => {
-                unreachable!()
-            }
         }
     }
 

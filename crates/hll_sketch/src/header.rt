@@ -1,9 +1,9 @@
 // SPDX-License-Identifier: Apache-2.0
 //! The first eight bytes of an image (docs/FORMAT.md, "The image").
-ghost use Rattle.std.specs.Prelude.{◌≡◌, ◌<◌, ◌≤◌, ◌/◌, ◌%◌, ◌==◌, ◌↔◌, Some, IsOk, IfOk, IfErr, ◌*◌};
+ghost use Rattle.std.specs.Prelude.{◌≡◌, ℕ, List, IsTrue, ◌<◌, ◌≤◌, ◌/◌, ◌%◌, ◌==◌, ◌↔◌, Some, IsOk, IfOk, IfErr, ◌*◌};
 ghost use Rattle.hll_base.specs.declared.error.Reason.TheVariants as reasons;
 ghost use Rattle.hll_sketch.specs.Value.{IsLgK};
-ghost use Rattle.hll_sketch.specs.Image.{HasHeader, stage_bits, width_of_bits, preamble_words};
+ghost use Rattle.hll_sketch.specs.Image.{HasHeader, HasSetTable, stage_bits, width_of_bits, preamble_words};
 ghost use Rattle.hll_sketch.specs.Header.{stage_of_bits, number_of_stage, header_of};
 ghost use Rattle.hll_sketch.specs.Checks.{first_failing, header_checks};
 ghost use Rattle.hll_sketch.specs.Fault.{HeaderFault};
@@ -14,8 +14,9 @@ use hll_base::family::Family;
 use hll_base::hll_type::HllType;
 use hll_coupons::serialization::{
     COMPACT_FLAG_MASK, CUR_MODE_HLL, CUR_MODE_LIST, CUR_MODE_SET, EMPTY_FLAG_MASK,
-    HASH_SET_PREINTS, HLL_PREINTS, LIST_PREINTS, OUT_OF_ORDER_FLAG_MASK, SERIAL_VERSION, TGT_HLL4,
-    TGT_HLL6, TGT_HLL8, extract_cur_mode, extract_tgt_hll_type,
+    HASH_SET_PREINTS, HLL_PREINTS, LG_LEAST_SET_BUCKETS, LG_SET_BELOW_LG_K, LIST_PREINTS,
+    OUT_OF_ORDER_FLAG_MASK, SERIAL_VERSION, TGT_HLL4, TGT_HLL6, TGT_HLL8, extract_cur_mode,
+    extract_tgt_hll_type,
 };
 
 /// The number of bytes of the header.
@@ -34,7 +35,7 @@ pub enum Stage {
 
 /// What the header of an image says, after its checks.
 #[derive(Clone, Copy)]
-pub(crate) struct Header {
+pub struct Header {
     /// The logarithm of the number of registers, 4 to 21.
     pub lg_k: u8,
     /// The width of registers.
@@ -58,7 +59,7 @@ impl Header {
     ///
     /// Fails, in this order, with `Truncated` if there are fewer than eight bytes, `Family`, `Version`, `LgK`, `Width`,
     /// `Stage`, or with `Preamble` if the preamble words don't fit the stage.
-    pub(crate) fn read(bytes: &[u8]) -> Result<Header, Error>
+    pub fn read(bytes: &[u8]) -> Result<Header, Error>
         ensures ok { IfOk result (λ h. HasHeader bytes.now (stage_bits bytes.now) × (stage_bits bytes.now < 3) × (h ≡ header_of bytes.now)) }
         ensures err { IfErr result (λ e. HeaderFault bytes.now e) }
         ensures order { IfErr result (λ e. first_failing (header_checks bytes.now) ≡ Some e) }
@@ -161,6 +162,14 @@ fn check_preamble(stage: Stage, preamble: u8) -> Result<(), Error>
     } else {
         Err(Error::new(Reason::Preamble))
     }
+}
+
+/// Returns whether the size of the table of a set fits its `lg_k`.
+pub(crate) fn is_set_table(header: Header) -> bool
+    requires { 4 ≤ header.lg_k }
+    ensures { (b : List ℕ) → header ≡ header_of b → IsTrue result ↔ HasSetTable b }
+{
+    LG_LEAST_SET_BUCKETS <= header.lg_arr && header.lg_arr <= header.lg_k - LG_SET_BELOW_LG_K
 }
 
 /// Returns whether a flag is set. `mask` is a power of two.

@@ -13,8 +13,8 @@ pub mod few_exceptions;
 mod folding;
 mod header;
 mod image_check;
+pub mod image_head;
 pub mod image_registers;
-pub mod image_size;
 pub mod laws;
 pub mod max_registers;
 pub mod merge;
@@ -37,7 +37,7 @@ mod updatable;
 pub use coupon_images::{
     coupon_image_at, folded_coupon_image, union_of_coupon_images, union_of_one_coupon_image,
 };
-pub use header::Stage;
+pub use header::{Header, Stage};
 pub use mode::Mode;
 pub use raw_coupons::max_coupon;
 pub use register_images::{register_image_at, register_image_with};

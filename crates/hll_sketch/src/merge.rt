@@ -1,35 +1,22 @@
 // SPDX-License-Identifier: Apache-2.0
-//! Merges sketches and their images into a union (docs/MODEL.md, "Merging").
-ghost use Rattle.std.specs.Prelude.{◌≡◌, ◌⊎◌, ℕ, ◌<◌, ◌≤◌, ◌==◌, true, false, Some, All, List, map, [], ◌∷◌, ◌++◌, IfErr, OnOk, OnErr};
+//! Merges sketches into a union (docs/MODEL.md, "Merging").
+ghost use Rattle.std.specs.Prelude.{◌≡◌, ℕ, ◌<◌, ◌≤◌, true, false, All, List, map, [], ◌∷◌, ◌++◌, IfErr, OnOk, OnErr};
 ghost use Rattle.std.specs.FinSet.{len};
-ghost use Rattle.std.specs.List.{list_all};
 ghost use Rattle.hll_base.specs.declared.error.Reason.TheVariants.{Memory};
-ghost use Rattle.hll_coupons.specs.Coupons.{raw_coupons};
 ghost use Rattle.hll_coupons.specs.Table.{coupons_of};
 ghost use Rattle.hll_registers.specs.State.{cleared_state};
 ghost use Rattle.hll_sketch.specs.Adding.{add};
-ghost use Rattle.hll_sketch.specs.Checks.{first_fault};
 ghost use Rattle.hll_sketch.specs.Canonical.{IsCanonicalCleared};
-ghost use Rattle.hll_sketch.specs.Header.{header_of};
-ghost use Rattle.hll_sketch.specs.Image.{HasHeader, stage_bits};
 ghost use Rattle.hll_sketch.specs.Joined.{IsMergeOf};
 ghost use Rattle.hll_sketch.specs.Layout.{content_in, sketch_of};
 ghost use Rattle.hll_sketch.specs.Merging as merging;
-ghost use Rattle.hll_sketch.specs.MergedIn.{IsOfCoupons, IsOfRegisters, MergesIn, HasCompactCoupons, ImageNeedsMemory};
 ghost use Rattle.hll_sketch.specs.Union.{gadget_of, sketch_of_registers, CanMergeIn, ContentNeedsMemory, IsGadget, MergeNeedsMemory};
-ghost use Rattle.hll_sketch.specs.Updatable.{HasUpdatableCoupons};
 ghost use Rattle.hll_sketch.specs.Value.{Sketch, IsLegal, IsLgK, coupons, in_registers, is_empty, registers};
 
-use crate::coupon_room::CouponRoom;
-use crate::header::{Header, Stage};
 use crate::mode::Mode;
-use crate::raw_coupons::{RawCoupons, compact_coupons, counted_coupons};
-use crate::raw_registers::with_registers;
-use crate::read_image::read_sketch;
 use crate::register_folds::eight_bits_of;
 use crate::sketch::HllSketch;
 use crate::union::HllUnion;
-use crate::updatable::updatable_coupons;
 use hll_arrays::array8::Array8;
 use hll_arrays::registers::Registers;
 use hll_base::error::Error;
@@ -180,168 +167,6 @@ impl<A: Allocator + Clone> HllUnion<A> {
         self.gadget.value_is_legal();
         table.table_is_legal();
         self.gadget.add_table(table)
-    }
-
-    /// Merges the sketch of an image, as `update` does. Bytes after the image are ignored. No table is made of coupons that are
-    /// added to registers, if they are at most 128, or ascend in a compact image, as in images that this library writes; nor for a
-    /// compact image without coupons. Registers are not copied.
-    ///
-    /// Fails with the reason of the first check that the bytes fail (docs/FORMAT.md, "Order of checks"), or with `Memory`, and
-    /// then changes nothing, not even buckets. Allocates a table for other coupons, only once all bytes that the image needs
-    /// are there, a map for the exceptions of 4-bit registers, if there are any, and what `update` does.
-    pub fn update_with_image(&mut self, image: &[u8]) -> Result<(), Error>
-        ensures ok { OnOk result (MergesIn self.old self.new image.now) }
-        ensures unchanged { OnErr result (self.new ≡ self.old) }
-        ensures needed { IfErr result (λ e. e ≡ Memory → ImageNeedsMemory (gadget_of self.old) image.now) }
-        ensures err { IfErr result (λ e. (e ≡ Memory) ⊎ (first_fault image.now ≡ Some e)) }
-    {
-        let header = Header::read(image)?;
-        self.merge_image(image, header)
-    }
-
-    /// Merges the sketch of an image whose header has been read, as `update_with_image` does.
-    pub(crate) fn merge_image(&mut self, image: &[u8], header: Header) -> Result<(), Error>
-        requires has { HasHeader image.now (stage_bits image.now) }
-        requires stage { stage_bits image.now < 3 }
-        requires header { header ≡ header_of image.now }
-        ensures ok { OnOk result (MergesIn self.old self.new image.now) }
-        ensures unchanged { OnErr result (self.new ≡ self.old) }
-        ensures needed { IfErr result (λ e. e ≡ Memory → ImageNeedsMemory (gadget_of self.old) image.now) }
-        ensures err { IfErr result (λ e. (e ≡ Memory) ⊎ (first_fault image.now ≡ Some e)) }
-    {
-        match header.stage {
-            Stage::List | Stage::Set => self.merge_image_of_coupons(image, header),
-            Stage::Hll => self.merge_image_of_registers(image, header),
-        }
-    }
-
-    /// Merges the coupons after the header of a list or a set, as `update_with_image` does.
-    fn merge_image_of_coupons(&mut self, image: &[u8], header: Header) -> Result<(), Error>
-        requires has { HasHeader image.now (stage_bits image.now) }
-        requires stage { stage_bits image.now < 2 }
-        requires header { header ≡ header_of image.now }
-        ensures ok { OnOk result (MergesIn self.old self.new image.now) }
-        ensures unchanged { OnErr result (self.new ≡ self.old) }
-        ensures needed { IfErr result (λ e. e ≡ Memory → ImageNeedsMemory (gadget_of self.old) image.now) }
-        ensures err { IfErr result (λ e. (e ≡ Memory) ⊎ (first_fault image.now ≡ Some e)) }
-    {
-        if !self.gadget.in_registers() {
-            return self.merge_into_coupons(image, header);
-        }
-        match compact_coupons(image, header) {
-            Some(coupons) => {
-                self.add_coupons(image, &coupons);
-                Ok(())
-            }
-            None => self.merge_other_coupons(image, header),
-        }
-    }
-
-    /// Adds the coupons after the header of a list or a set to registers, as `update_with_image` does, if one pass over a
-    /// compact image has not shown that they are distinct.
-    // (not inlined: compact coupons need none of it)
-    #[inline(never)]
-    fn merge_other_coupons(&mut self, image: &[u8], header: Header) -> Result<(), Error>
-        requires has { HasHeader image.now (stage_bits image.now) }
-        requires stage { stage_bits image.now < 2 }
-        requires header { header ≡ header_of image.now }
-        requires inside { in_registers (gadget_of self.old).content ≡ true }
-        requires other { HasCompactCoupons image.now → ⊥ }
-        ensures ok { OnOk result (MergesIn self.old self.new image.now) }
-        ensures unchanged { OnErr result (self.new ≡ self.old) }
-        ensures needed { IfErr result (λ e. e ≡ Memory → ImageNeedsMemory (gadget_of self.old) image.now) }
-        ensures err { IfErr result (λ e. (e ≡ Memory) ⊎ (first_fault image.now ≡ Some e)) }
-    {
-        let mut room = CouponRoom::new();
-        match updatable_coupons(image, header, &mut room) {
-            Some(coupons) => {
-                self.add_coupons(image, &coupons);
-                Ok(())
-            }
-            None => self.merge_table_of_image(image, header),
-        }
-    }
-
-    /// Merges the sketch of a list or a set into a gadget that has coupons or is empty, as `update_with_image` does. No table is
-    /// made for a compact image without coupons.
-    fn merge_into_coupons(&mut self, image: &[u8], header: Header) -> Result<(), Error>
-        requires has { HasHeader image.now (stage_bits image.now) }
-        requires stage { stage_bits image.now < 2 }
-        requires header { header ≡ header_of image.now }
-        requires outside { in_registers (gadget_of self.old).content ≡ false }
-        ensures ok { OnOk result (MergesIn self.old self.new image.now) }
-        ensures unchanged { OnErr result (self.new ≡ self.old) }
-        ensures needed { IfErr result (λ e. e ≡ Memory → ImageNeedsMemory (gadget_of self.old) image.now) }
-        ensures err { IfErr result (λ e. (e ≡ Memory) ⊎ (first_fault image.now ≡ Some e)) }
-    {
-        if let Some(coupons) = counted_coupons(image, header) {
-            if coupons.count == 0 {
-                return Ok(());
-            }
-        }
-        self.merge_table_of_image(image, header)
-    }
-
-    /// Merges the sketch of a list or a set, which is read into a table, as `update_with_image` does.
-    fn merge_table_of_image(&mut self, image: &[u8], header: Header) -> Result<(), Error>
-        requires has { HasHeader image.now (stage_bits image.now) }
-        requires stage { stage_bits image.now < 2 }
-        requires header { header ≡ header_of image.now }
-        requires compact { in_registers (gadget_of self.old).content ≡ true → HasCompactCoupons image.now → ⊥ }
-        requires updatable { in_registers (gadget_of self.old).content ≡ true → HasUpdatableCoupons image.now → ⊥ }
-        ensures ok { OnOk result (MergesIn self.old self.new image.now) }
-        ensures unchanged { OnErr result (self.new ≡ self.old) }
-        ensures needed { IfErr result (λ e. e ≡ Memory → ImageNeedsMemory (gadget_of self.old) image.now) }
-        ensures err { IfErr result (λ e. (e ≡ Memory) ⊎ (first_fault image.now ≡ Some e)) }
-    {
-        let sketch = read_sketch(self.gadget.allocator(), image, header)?;
-        self.update(&sketch)
-    }
-
-    /// Adds the coupons of an image in turn to a gadget in registers.
-    fn add_coupons(&mut self, image: &[u8], coupons: &RawCoupons<'_>)
-        requires inside { in_registers (gadget_of self.old).content ≡ true }
-        requires of { IsOfCoupons image.now (raw_coupons coupons.now.count coupons.now.bytes.now) }
-        ensures { MergesIn self.old self.new image.now }
-    {
-        self.gadget.value_is_legal();
-        self.gadget.add_in_turn(coupons);
-    }
-
-    /// Merges the registers after the header of an image, as `update_with_image` does.
-    // (not inlined: a caller would have to clear its values for compact coupons too)
-    #[inline(never)]
-    fn merge_image_of_registers(&mut self, image: &[u8], header: Header) -> Result<(), Error>
-        requires has { HasHeader image.now 2 }
-        requires header { header ≡ header_of image.now }
-        ensures ok { OnOk result (MergesIn self.old self.new image.now) }
-        ensures unchanged { OnErr result (self.new ≡ self.old) }
-        ensures needed { IfErr result (λ e. e ≡ Memory → ImageNeedsMemory (gadget_of self.old) image.now) }
-        ensures err { IfErr result (λ e. (e ≡ Memory) ⊎ (first_fault image.now ≡ Some e)) }
-    {
-        with_registers!(self.gadget.allocator(), image, header, source => {
-            self.merge_borrowed(image, &source, source.are_all_zero())
-        })
-    }
-
-    /// Merges the registers of an image. `are_all_zero` says whether all of them are 0.
-    fn merge_borrowed<R: Registers>(
-        &mut self,
-        image: &[u8],
-        source: &R,
-        are_all_zero: bool,
-    ) -> Result<(), Error>
-        requires registers { IsOfRegisters image.now (R.stored source.now) }
-        requires zeros { are_all_zero ≡ list_all (λ v. v == 0) (R.stored source.now).registers }
-        ensures ok { OnOk result (MergesIn self.old self.new image.now) }
-        ensures unchanged { OnErr result (self.new ≡ self.old) }
-        ensures needed { OnErr result (ImageNeedsMemory (gadget_of self.old) image.now) }
-        ensures err { IfErr result (λ e. e ≡ Memory) }
-    {
-        if are_all_zero {
-            return Ok(());
-        }
-        self.merge_registers(source)
     }
 }
 

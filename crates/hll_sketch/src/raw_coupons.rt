@@ -1,7 +1,7 @@
 // SPDX-License-Identifier: Apache-2.0
 //! The coupons of a compact image, borrowed from its bytes: coupons that ascend, as this library writes them, or few coupons in
 //! any order. One pass over them shows that they are distinct, without a table or a copy.
-ghost use Rattle.std.specs.Prelude.{◌≡◌, ◌*◌, ◌^◌, ◌-◌, ◌<◌, ◌≤◌, ◌↔◌, [], ◌∷◌, true, false, None, Some, nat_eq, IsTrue, IfSome, IfNone, OnSome, length, map, slice_index};
+ghost use Rattle.std.specs.Prelude.{◌≡◌, ◌*◌, ◌^◌, ◌-◌, ◌<◌, ◌≤◌, ◌↔◌, [], ◌∷◌, true, false, None, Some, nat_eq, IsTrue, IfSome, IfNone, OnSome, length, map};
 ghost use Rattle.std.specs.FinSet.{contains};
 ghost use Rattle.std.specs.Int.{w32, from_le_bytes};
 ghost use Rattle.std.specs.List.{list_any};
@@ -16,10 +16,8 @@ ghost use Rattle.hll_base.specs.declared.error.Reason.TheVariants as reasons;
 ghost use Rattle.hll_sketch.specs.Checks.{first_fault, size_fault};
 ghost use Rattle.hll_sketch.specs.Header.{header_of};
 ghost use Rattle.hll_sketch.specs.Image.{HasHeader, stage_bits, is_flagged};
-ghost use Rattle.hll_sketch.specs.Laws.{add_in_turn};
-ghost use Rattle.hll_sketch.specs.Union.{sketch_of_registers};
 
-use crate::header::{HEADER_SIZE, Header, Stage};
+use crate::header::{HEADER_SIZE, Header, Stage, is_set_table};
 use hll_arrays::array8::Array8;
 use hll_arrays::registers::two_to;
 use hll_base::bounds::SLOT_BITS;
@@ -28,9 +26,7 @@ use hll_coupons::coupon::Coupon;
 use hll_coupons::raw_coupons::{
     RawCouponIter, ascends, bytes_of_raw_coupons, elements_of_raw_coupons, raw_coupon_at,
 };
-use hll_coupons::serialization::{
-    COUPON_SIZE_BYTES, LG_LEAST_SET_BUCKETS, LG_LIST_BUCKETS, LG_SET_BELOW_LG_K,
-};
+use hll_coupons::serialization::{COUPON_SIZE_BYTES, LG_LIST_BUCKETS};
 use std::alloc::Allocator;
 
 /// The greatest raw coupon with the value 0.
@@ -160,21 +156,6 @@ impl<'a> RawCoupons<'a> {
         self.differ()
     }
 
-    /// Adds these coupons in turn to 8-bit registers.
-    // (not inlined: one loop for all callers)
-    #[inline(never)]
-    pub(crate) fn add_to<A: Allocator>(&self, array: &mut Array8<A>)
-        ensures added { sketch_of_registers array.new ≡ add_in_turn (sketch_of_registers array.old) (raw_coupons self.now.count self.now.bytes.now) }
-        ensures lg_k { array.new.lg_k ≡ array.old.lg_k }
-    {
-        let mut cursor = SketchSlice::new(self.bytes);
-        for _ in 0..self.count {
-            if let Ok(raw_coupon) = cursor.read_u32_le() {
-                array.update(Coupon::pack(raw_coupon, (raw_coupon >> SLOT_BITS) as u8));
-            }
-        }
-    }
-
     /// Adds these coupons in turn to 2^`lg_k` registers of one byte each.
     pub(crate) fn max_into(&self, registers: &mut [u8], lg_k: u8)
         requires most { lg_k ≤ 21 }
@@ -298,10 +279,7 @@ fn set_coupons(bytes: &[u8], header: Header) -> Option<RawCoupons<'_>>
     ensures sized { OnSome result (size_fault bytes.now ≡ None) }
     ensures none { IfNone result (HasCompactCoupons bytes.now → ⊥) }
 {
-    if !header.compact
-        || header.lg_arr < LG_LEAST_SET_BUCKETS
-        || header.lg_k - LG_SET_BELOW_LG_K < header.lg_arr
-    {
+    if !header.compact || !is_set_table(header) {
         return None;
     }
     let mut cursor = SketchSlice::new(&bytes[HEADER_SIZE..]);

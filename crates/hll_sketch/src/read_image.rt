@@ -11,7 +11,7 @@ ghost use Rattle.hll_sketch.specs.Image.{HasHeader, IsReadAs, stage_bits, width_
 ghost use Rattle.hll_sketch.specs.Layout.{sketch_of};
 ghost use Rattle.hll_sketch.specs.Refusal.{IsRefusal};
 
-use crate::header::{HEADER_SIZE, Header, Stage};
+use crate::header::{HEADER_SIZE, Header, Stage, is_set_table};
 use crate::mode::Mode;
 use crate::raw_coupons::few_are_faulty;
 use crate::sketch::HllSketch;
@@ -24,7 +24,7 @@ use hll_base::error::{Error, Reason};
 use hll_base::hll_type::HllType;
 use hll_coupons::hash_set::HashSet;
 use hll_coupons::list::List;
-use hll_coupons::serialization::{LG_LEAST_SET_BUCKETS, LG_LIST_BUCKETS, LG_SET_BELOW_LG_K};
+use hll_coupons::serialization::LG_LIST_BUCKETS;
 use std::alloc::Allocator;
 
 impl<A: Allocator + Clone> HllSketch<A> {
@@ -136,7 +136,7 @@ fn read_set<A: Allocator + Clone>(
     ensures ok { IfOk result (λ s. IsReadAs bytes.now (sketch_of s)) }
     ensures err { IfErr result (IsRefusal bytes.now) }
 {
-    if header.lg_arr < LG_LEAST_SET_BUCKETS || header.lg_k - LG_SET_BELOW_LG_K < header.lg_arr {
+    if !is_set_table(header) {
         return Err(Error::new(Reason::LgArr));
     }
     if few_are_faulty(bytes, header) {

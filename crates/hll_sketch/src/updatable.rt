@@ -10,13 +10,11 @@ ghost use Rattle.hll_sketch.specs.MergedIn.{IsOfCoupons};
 ghost use Rattle.hll_sketch.specs.Updatable.{HoldCoupons, HasUpdatableCoupons};
 
 use crate::coupon_room::{CouponRoom, ROOM};
-use crate::header::{HEADER_SIZE, Header, Stage};
+use crate::header::{HEADER_SIZE, Header, Stage, is_set_table};
 use crate::raw_coupons::{FEW, RawCoupons};
 use hll_arrays::registers::two_to;
 use hll_base::cursor::SketchSlice;
-use hll_coupons::serialization::{
-    COUPON_SIZE_BYTES, LG_LEAST_SET_BUCKETS, LG_LIST_BUCKETS, LG_SET_BELOW_LG_K,
-};
+use hll_coupons::serialization::{COUPON_SIZE_BYTES, LG_LIST_BUCKETS};
 
 /// The buckets of a table, and the number of filled buckets that an image says: 1 to `FEW`.
 #[derive(Clone, Copy)]
@@ -168,10 +166,7 @@ fn set_buckets(bytes: &[u8], header: Header) -> Option<Buckets<'_>>
     ensures hold { IfSome result (λ p. HasUpdatableCoupons bytes.now → HoldCoupons p.filled (raw_coupons p.raw_coupons.count p.raw_coupons.bytes.now)) }
     ensures none { IfNone result (HasUpdatableCoupons bytes.now → ⊥) }
 {
-    if header.compact
-        || header.lg_arr < LG_LEAST_SET_BUCKETS
-        || header.lg_k - LG_SET_BELOW_LG_K < header.lg_arr
-    {
+    if header.compact || !is_set_table(header) {
         return None;
     }
     let mut cursor = SketchSlice::new(&bytes[HEADER_SIZE..]);

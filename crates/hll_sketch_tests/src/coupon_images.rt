@@ -37,8 +37,8 @@ fn image_of(alloc: Global, source: (u32, u8), from: u32) -> Result<Vec<u8>, Erro
 /// Returns the image of the union of two images, made with a union.
 fn by_union(alloc: Global, hll_type: HllType, left: &[u8], right: &[u8]) -> Result<Vec<u8>, Error> {
     let mut union = HllUnion::new(alloc, 10)?;
-    union.update_with_image(left)?;
-    union.update_with_image(right)?;
+    union.update(&HllSketch::deserialize(alloc, left)?)?;
+    union.update(&HllSketch::deserialize(alloc, right)?)?;
     union.into_sketch(hll_type)?.serialize()
 }
 
@@ -93,7 +93,7 @@ fn is_made_alone(alloc: Global, hll_type: HllType, image: &[u8]) -> Result<Optio
         return Ok(Some(false));
     };
     let mut union = HllUnion::new(alloc, 10)?;
-    union.update_with_image(image)?;
+    union.update(&HllSketch::deserialize(alloc, image)?)?;
     let right = union.into_sketch(hll_type)?.serialize()? == made;
     Ok(if right { Some(true) } else { None })
 }

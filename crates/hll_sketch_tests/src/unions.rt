@@ -135,26 +135,6 @@ fn union_with(alloc: Global, count: u32) -> Result<HllUnion, Error> {
     Ok(union)
 }
 
-/// A union, and whether an image was merged into it, or why it was not.
-type Merged = Result<(HllSketch, Result<(), Error>), Error>;
-
-/// Merges an image into a union of this many coupons.
-fn with_image(alloc: Global, count: u32, image: &[u8]) -> Merged {
-    let mut union = union_with(alloc, count)?;
-    let answer = union.update_with_image(image);
-    Ok((union.into_sketch(HllType::Hll8)?, answer))
-}
-
-/// Merges the sketch that an image is read as into such a union.
-fn with_sketch(alloc: Global, count: u32, image: &[u8]) -> Merged {
-    let mut union = union_with(alloc, count)?;
-    let answer = match HllSketch::deserialize(alloc, image) {
-        Ok(sketch) => union.update(&sketch),
-        Err(e) => Err(e),
-    };
-    Ok((union.into_sketch(HllType::Hll8)?, answer))
-}
-
 /// Returns whether checking an image gives the result of reading it.
 fn is_checked_alike(alloc: Global, image: &[u8]) -> bool {
     let read = match HllSketch::deserialize(alloc, image) {
@@ -162,13 +142,6 @@ fn is_checked_alike(alloc: Global, image: &[u8]) -> bool {
         Err(e) => Err(e),
     };
     HllSketch::check(alloc, image) == read
-}
-
-/// Returns whether merging an image, and merging the sketch that it is read as, give the same result and the same union, and
-/// whether checking the image gives the result of reading it.
-fn merge_alike(alloc: Global, count: u32, image: &[u8]) -> Result<bool, Error> {
-    let merged = with_image(alloc, count, image)?;
-    Ok(merged == with_sketch(alloc, count, image)? && is_checked_alike(alloc, image))
 }
 
 /// Returns the image of a sketch of this many coupons, with more bytes after it.
@@ -179,15 +152,9 @@ fn image_of(alloc: Global, hll_type: HllType, source: (u32, u8)) -> Result<Vec<u
     Ok(image)
 }
 
-/// Returns whether an image with one byte changed is merged as the sketch that it is read as, for each of some bytes from an
+/// Returns whether an image with one byte changed is checked as it is read, for each of some bytes from an
 /// index on, as far as there are any.
-fn changes_merge_alike(
-    alloc: Global,
-    count: u32,
-    image: &mut [u8],
-    from: usize,
-    changed: usize,
-) -> Result<bool, Error> {
+fn changes_are_checked_alike(alloc: Global, image: &mut [u8], from: usize, changed: usize) -> bool {
     let mut alike = true;
     for index in from..image.len().min(from.saturating_add(changed)) {
         let byte = image[index];
@@ -201,51 +168,43 @@ fn changes_merge_alike(
             255,
         ] {
             image[index] = value;
-            alike = alike && merge_alike(alloc, count, image)?;
+            alike = alike && is_checked_alike(alloc, image);
         }
         image[index] = byte;
     }
-    Ok(alike)
+    alike
 }
 
-/// Returns whether each prefix of an image is merged as the sketch that it is read as.
-fn fronts_merge_alike(alloc: Global, count: u32, image: &[u8]) -> Result<bool, Error> {
+/// Returns whether each prefix of an image is checked as it is read.
+fn fronts_are_checked_alike(alloc: Global, image: &[u8]) -> bool {
     let mut alike = true;
     for length in 0..image.len().min(100) {
-        alike = alike && merge_alike(alloc, count, &image[..length])?;
+        alike = alike && is_checked_alike(alloc, &image[..length]);
     }
-    Ok(alike)
+    alike
 }
 
-/// Images are merged as the sketches that they are read as, into nothing, a list, a set and registers: images of each stage and
-/// width, cut short, and with a byte changed, so that coupons descend, are repeated or have the value 0.
+/// Images are checked as they are read: images of each stage and width, cut short, and with a byte changed, so that coupons
+/// descend, are repeated or have the value 0.
 #[test]
 fn images(rt: HostRuntime) -> Result<(), Fail> {
-    for count in [0, 5, 30, 300] {
-        for source in [
-            (0, 10),
-            (1, 9),
-            (3, 8),
-            (7, 21),
-            (20, 8),
-            (60, 12),
-            (300, 8),
-        ] {
-            for hll_type in WIDTHS {
-                let mut image = image_of(rt.alloc(), hll_type, source)?;
-                assert!(rt;
-                    merge_alike(rt.alloc(), count, &image)?,
-                    "{count} {source:?}"
-                );
-                assert!(rt;
-                    fronts_merge_alike(rt.alloc(), count, &image)?,
-                    "{count} {source:?}"
-                );
-                assert!(rt;
-                    changes_merge_alike(rt.alloc(), count, &mut image, 0, 28)?,
-                    "{count} {source:?}"
-                );
-            }
+    for source in [
+        (0, 10),
+        (1, 9),
+        (3, 8),
+        (7, 21),
+        (20, 8),
+        (60, 12),
+        (300, 8),
+    ] {
+        for hll_type in WIDTHS {
+            let mut image = image_of(rt.alloc(), hll_type, source)?;
+            assert!(rt; is_checked_alike(rt.alloc(), &image), "{source:?}");
+            assert!(rt; fronts_are_checked_alike(rt.alloc(), &image), "{source:?}");
+            assert!(rt;
+                changes_are_checked_alike(rt.alloc(), &mut image, 0, 28),
+                "{source:?}"
+            );
         }
     }
     Ok(())
@@ -265,84 +224,67 @@ fn with_few_exceptions(
     Ok(sketch)
 }
 
-/// Images of registers are merged as the sketches that they are read as, also if they have few exceptions: at the same `lg_k`
-/// as the union, a smaller one and a greater one, cut short, and with a byte changed, so that counts, nibbles and exceptions
-/// are wrong or don't agree.
+/// Images of registers are checked as they are read, also if they have few exceptions: cut short, and with a byte changed, so
+/// that counts, nibbles and exceptions are wrong or don't agree.
 #[test]
 fn images_of_registers(rt: HostRuntime) -> Result<(), Fail> {
-    for count in [5, 300] {
-        for source in [(256, 8), (1024, 10), (4096, 12)] {
-            for hll_type in WIDTHS {
-                let mut image = with_few_exceptions(rt.alloc(), hll_type, source)?.serialize()?;
-                assert!(rt;
-                    merge_alike(rt.alloc(), count, &image)?,
-                    "{count} {source:?}"
-                );
-                assert!(rt;
-                    fronts_merge_alike(rt.alloc(), count, &image)?,
-                    "{count} {source:?}"
-                );
-                assert!(rt;
-                    changes_merge_alike(rt.alloc(), count, &mut image, 28, 20)?,
-                    "{count} {source:?}"
-                );
-                let last = image.len().saturating_sub(13);
-                assert!(rt;
-                    changes_merge_alike(rt.alloc(), count, &mut image, last, 13)?,
-                    "{count} {source:?}"
-                );
-            }
+    for source in [(256, 8), (1024, 10), (4096, 12)] {
+        for hll_type in WIDTHS {
+            let mut image = with_few_exceptions(rt.alloc(), hll_type, source)?.serialize()?;
+            assert!(rt; is_checked_alike(rt.alloc(), &image), "{source:?}");
+            assert!(rt; fronts_are_checked_alike(rt.alloc(), &image), "{source:?}");
+            assert!(rt;
+                changes_are_checked_alike(rt.alloc(), &mut image, 28, 20),
+                "{source:?}"
+            );
+            let last = image.len().saturating_sub(13);
+            assert!(rt;
+                changes_are_checked_alike(rt.alloc(), &mut image, last, 13),
+                "{source:?}"
+            );
         }
     }
     Ok(())
 }
 
-/// Returns whether an image in which some buckets have the raw coupons of others is merged as the sketch that it is read as.
-fn raw_coupons_merge_alike(alloc: Global, count: u32, image: &[u8]) -> Result<bool, Error> {
+/// Returns whether an image in which some buckets have the raw coupons of others is checked as it is read.
+fn raw_coupons_are_checked_alike(alloc: Global, image: &[u8]) -> Result<bool, Error> {
     let mut alike = true;
     for from in 2u8..12 {
         for to in 2u8..9 {
             let (from, to) = (usize::from(from) * 4, usize::from(to) * 20 - 28);
             let changed = with_bytes_twice(alloc, image, from, to)?;
-            alike = alike && merge_alike(alloc, count, &changed)?;
+            alike = alike && is_checked_alike(alloc, &changed);
         }
     }
     Ok(alike)
 }
 
-/// Updatable images are merged as the sketches that they are read as, into nothing, a list, a set and registers: lists, and
+/// Updatable images are checked as they are read: lists, and
 /// sets of up to 128 coupons and of more, as they are, cut short, and with bytes and raw coupons changed, so that coupons
 /// descend, are repeated, have the value 0, or don't agree with the count.
 #[test]
 fn updatable_images(rt: HostRuntime) -> Result<(), Fail> {
-    for count in [0, 5, 30, 300] {
-        for source in [
-            (0, 10),
-            (1, 9),
-            (7, 21),
-            (20, 8),
-            (60, 12),
-            (128, 12),
-            (129, 12),
-        ] {
-            let mut image = updatable_image(rt.alloc(), source)?;
-            assert!(rt;
-                merge_alike(rt.alloc(), count, &image)?,
-                "{count} {source:?}"
-            );
-            assert!(rt;
-                fronts_merge_alike(rt.alloc(), count, &image)?,
-                "{count} {source:?}"
-            );
-            assert!(rt;
-                raw_coupons_merge_alike(rt.alloc(), count, &image)?,
-                "{count} {source:?}"
-            );
-            assert!(rt;
-                changes_merge_alike(rt.alloc(), count, &mut image, 0, 28)?,
-                "{count} {source:?}"
-            );
-        }
+    for source in [
+        (0, 10),
+        (1, 9),
+        (7, 21),
+        (20, 8),
+        (60, 12),
+        (128, 12),
+        (129, 12),
+    ] {
+        let mut image = updatable_image(rt.alloc(), source)?;
+        assert!(rt; is_checked_alike(rt.alloc(), &image), "{source:?}");
+        assert!(rt; fronts_are_checked_alike(rt.alloc(), &image), "{source:?}");
+        assert!(rt;
+            raw_coupons_are_checked_alike(rt.alloc(), &image)?,
+            "{source:?}"
+        );
+        assert!(rt;
+            changes_are_checked_alike(rt.alloc(), &mut image, 0, 28),
+            "{source:?}"
+        );
     }
     Ok(())
 }

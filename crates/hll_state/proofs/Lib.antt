@@ -9,7 +9,7 @@ pub mod MergedBytes
 pub mod MergedImages
 pub mod MergedRegisters
 pub mod MergedStates
-pub mod MergedTables
+pub mod Moving
 pub mod NibbleParts
 pub mod Numbers
 pub mod Parts

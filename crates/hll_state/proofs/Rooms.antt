@@ -5,14 +5,14 @@ use Rattle.std.specs.Prelude.{max}
 use Rattle.std.specs.Option.{is_some}
 use Rattle.std.specs.List.{range_with_len}
 use Rattle.std.proofs.Math.Pow.{pow_mono}
-use Rattle.std.proofs.lemmas.Bool.{leb-true, le-leb, lt-leb, cases_Bool, cases_lt, and_parts, and_from, cond-true, cond-false, true≢false}
+use Rattle.std.proofs.lemmas.Bool.{leb-true, le-leb, lt-leb, cases_Bool, cases_lt, and_parts, and_from, cond-true, cond-false, true≢false, ne_eqb}
 use Rattle.std.proofs.lemmas.List.FromFn.{get_or-range_with_len, length-range_with_len}
 use Rattle.hll_coupons.proofs.Listed.{has, has-head, has-tail, has-at, at_index, finds, finds_none}
 use Rattle.hll_sketch.proofs.Stages.{holds_fewer}
 use Rattle.hll_sketch.specs.Layout.{IsSize}
 use Rattle.hll_sketch.specs.Stage.{can_hold, sizes, stage}
 use Rattle.hll_sketch.specs.Value.{IsTableFor}
-use Rattle.hll_state.specs.Header.{greatest_size, are_few, most_used, most_elements, elements_for, IsHeldWithin, IsWithin, HasRoom, HasRoomFor}
+use Rattle.hll_state.specs.Header.{greatest_size, are_few, most_used, most_elements, most_few, elements_for, IsHeldWithin, IsWithin, HasRoom, HasRoomFor}
 use Rattle.hll_state.specs.Merged.{used_in}
 use Rattle.hll_state.specs.declared.header.Header.{Header}
 use Rattle.hll_state.specs.declared.header.Held.{Held}
@@ -95,6 +95,34 @@ pub few_below : (k n : ℕ) → are_few k n ≡ true → n < most_used k
 few_below k n few =
     let small = size_small k (greatest_size k) (has_greatest k) in
     omega (arith, held_below (greatest_size k) n small.0 few, small.1)
+
+-- few coupons are at most as many as never become registers, for which there is always room
+four_each : (k : ℕ) → 8 ≤ k → 4 * 2 ^ (k - 5) ≡ 2 ^ (k - 3)
+four_each k high =
+    let twice : 4 * 2 ^ (k - 5) ≡ 2 ^ suc (suc (k - 5)) = omega arith in
+    twice ∙ ap (λ n. 2 ^ n) (let e : suc (suc (k - 5)) ≡ k - 3 = omega (arith, high) in e)
+
+pub few_most : (k n : ℕ) → are_few k n ≡ true → n ≤ most_few k
+few_most k n few = elim (cases_lt k 8) [
+  | inl low ↦
+      let seven : leb n 7 ≡ true = ap (λ q. can_hold q n) (sym (greatest_low k (omega (arith, low)))) ∙ few in
+      omega (arith, leb-true n 7 seven, cond-true (leb k 7) 7 (3 * 2 ^ (k - 5)) (le-leb k 7 (omega (arith, low))))
+  | inr high ↦
+      let holds : can_hold (k - 3) n ≡ true = ap (λ q. can_hold q n) (sym (greatest_high k (omega (arith, high)))) ∙ few in
+      let fits : leb (4 * n) (3 * 2 ^ (k - 3)) ≡ true =
+      sym (cond-false (eqb (k - 3) 3) (leb n 7) (leb (4 * n) (3 * 2 ^ (k - 3))) (ne_eqb (k - 3) 3 (λ e. omega (arith, e, high)))) ∙ holds in
+      omega (arith, leb-true (4 * n) (3 * 2 ^ (k - 3)) fits, four_each k (omega (arith, high)), cond-false (leb k 7) 7 (3 * 2 ^ (k - 5)) (lt-leb k 7 (omega (arith, high))))
+]
+
+pub most_few_small : (k : ℕ) → 4 ≤ k → most_few k ≤ most_elements k
+most_few_small k low = elim (cases_lt k 8) [
+  | inl few ↦
+      let up : 2 ^ 4 ≤ 2 ^ max 4 (k - 3) = pow_mono {i = 4} {j = max 4 (k - 3)} (omega arith) in
+      omega (arith, up, cond-true (leb k 7) 7 (3 * 2 ^ (k - 5)) (le-leb k 7 (omega (arith, few))))
+  | inr high ↦
+      let up : 2 ^ (k - 3) ≤ 2 ^ (k - 2) = pow_mono {i = k - 3} {j = k - 2} (omega arith) in
+      omega (arith, up, four_each k (omega (arith, high)), cond-false (leb k 7) 7 (3 * 2 ^ (k - 5)) (lt-leb k 7 (omega (arith, high))))
+]
 
 -- enough elements for more coupons are enough for fewer
 pub elements_mono : (k n m : ℕ) → n ≤ m → elements_for k n ≤ elements_for k m

@@ -1,17 +1,13 @@
 -- SPDX-License-Identifier: Apache-2.0
 -- A run and its tail, after each step.
-use Rattle.std.proofs.Common.{◌≡◌, ℕ, ◌+◌, ◌<◌, ◌≤◌, List, length, take, set, ap, ◌∙◌, arith}
+use Rattle.std.proofs.Common.{◌≡◌, ℕ, ◌+◌, ◌<◌, List, length, take, set, ap, ◌∙◌, arith}
 use Rattle.std.specs.FinSet.{insert}
 use Rattle.std.proofs.lemmas.List.{take_more_set}
 use Rattle.hll_coupons.specs.Pair.{set_of}
 use Rattle.hll_state.proofs.Sets.{set_of-push}
-use Rattle.hll_state.specs.CouponRun.{IsRun, members, raws}
+use Rattle.hll_state.specs.CouponRun.{members, raws}
 use Rattle.hll_state.specs.declared.run.CouponRun.{CouponRun}
 use Rattle.hll_state.proofs.Raws.{length-raws}
-
--- a run with no tail
-pub run-settled : (n : ℕ) (coupons : List (List ℕ)) → n ≤ length coupons → IsRun (record { run = n; used = n }) coupons
-run-settled n coupons within = record { run = omega arith; used = within }
 
 -- ---- one more coupon in the tail
 module _ (r : CouponRun) (coupons new : List (List ℕ)) (raw : ℕ) (l : r.used < length coupons) (w : raws new ≡ set (raws coupons) r.used raw) where

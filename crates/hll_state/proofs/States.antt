@@ -8,9 +8,9 @@ use Rattle.std.proofs.lemmas.List.{length-append, length-take-le, take_at}
 use Rattle.std.proofs.lemmas.List.{length-drop, take_all, drop_all, append-nil}
 use borrow.Rule.Slice.PartMut.{mid_of, put_mid}
 use Rattle.hll_sketch.specs.Value.{Sketch, IsLegal, IsLegalContent}
-use Rattle.hll_state.specs.Counter.{sketch_in, content_of, IsHeldResolved}
+use Rattle.hll_state.specs.Counter.{sketch_in, content_of}
 use Rattle.hll_state.specs.CouponRun.{raws}
-use Rattle.hll_state.specs.Header.{header_of, IsWithin, HasRoom, HasShortTail, most_used}
+use Rattle.hll_state.specs.Header.{header_of, IsWithin, HasRoom, most_used}
 use Rattle.hll_state.specs.Joined.{AreEnoughToMerge}
 use Rattle.hll_state.specs.Memory.{HasHeader, IsStateOf, OfState, HasWidths, KeepsWidths, IsOnlyRead, IsReady, AreEnough, is_open}
 use Rattle.hll_state.specs.Merged.{AreHeldRegistersLegal, HasLegalRegisters}
@@ -118,11 +118,6 @@ written_header elements body h has l =
     same_header elements (put_mid 10 (length elements - 10) elements body) h has (read_written elements body has.there l) (size_written elements body has.there l)
 
 -- ---- repeated coupons
-
--- resolved coupons have no tail
-pub resolved_short : (k : ℕ) (held : Held) (body : List (List ℕ)) → IsHeldResolved k held body → HasShortTail held
-resolved_short k (Coupons c) body resolved = omega (arith, resolved.settled)
-resolved_short k (Registers s) body resolved = tt
 
 -- ---- a state that is ready for n coupons
 

@@ -1,6 +1,6 @@
 -- SPDX-License-Identifier: Apache-2.0
 -- What the first ten elements of a state say, each as a 32-bit number (docs/MODEL.md, "States of a counter").
-use Rattle.std.specs.Prelude.{◌≡◌, ℕ, ◌+◌, ◌-◌, ◌*◌, ◌%◌, ◌/◌, ◌^◌, ◌≤◌, ◌<◌, ◌==◌, nat_le, Bool, true, false, if◌then◌else◌, List, [], ◌∷◌, slice_index, Option, Some, None, max}
+use Rattle.std.specs.Prelude.{◌≡◌, ℕ, ◌+◌, ◌-◌, ◌*◌, ◌%◌, ◌/◌, ◌^◌, ◌≤◌, ◌<◌, ◌==◌, nat_le, Bool, true, false, if◌then◌else◌, List, [], ◌∷◌, slice_index, Option, Some, None, max, min}
 use Rattle.hll_registers.specs.declared.estimate_state.EstimateState.{EstimateState}
 use Rattle.hll_sketch.specs.Layout.{IsSize}
 use Rattle.hll_sketch.specs.Stage.{can_hold}
@@ -117,10 +117,18 @@ HasRoom h n room = HasRoomFor h.lg_k h.held n room
 abbrev pub half_more : ℕ → ℕ
 half_more n = n + (n / 2 + 8)
 
--- the number of elements, header included, that is asked for if there is no room for n more coupons: enough for half as many
--- coupons again and eight more; registers need no more
+-- the greatest number of coupons that never become registers
+abbrev pub most_few : ℕ → ℕ
+most_few k = if nat_le k 7 then 7 else 3 * 2 ^ (k - 5)
+
+-- the number of elements that is asked for n coupons: enough for half as many again and eight more, but for no more than never
+-- become registers, unless the n are more
+abbrev pub asked_for : ℕ → ℕ → ℕ
+asked_for k n = if are_few k n then min (half_more n) (most_few k) else most_elements k
+
+-- the number of elements, header included, that is asked for if there is no room for n more coupons; registers need no more
 abbrev pub len_asked : ℕ → Held → ℕ → ℕ
-len_asked k (Coupons c) n = 10 + elements_for k (half_more (c.run.used + n))
+len_asked k (Coupons c) n = 10 + asked_for k (c.run.used + n)
 len_asked k (Registers s) n = 10 + 2 ^ (k - 2)
 
 -- the tail, in which coupons may be repeated, has at most a quarter of the elements in use

@@ -1,9 +1,9 @@
 -- SPDX-License-Identifier: Apache-2.0
 -- States in longer and in shorter memory (docs/MODEL.md, "States of a counter").
-use Rattle.std.specs.Prelude.{◌≡◌, ℕ, ◌+◌, ◌-◌, ◌^◌, ◌≤◌, List, ◌++◌, take, drop}
+use Rattle.std.specs.Prelude.{◌≡◌, ℕ, ◌+◌, ◌-◌, ◌^◌, ◌≤◌, List, ◌++◌, length, take, drop}
 use Rattle.hll_state.specs.Counter.{sketch_in}
 use Rattle.hll_state.specs.Header.{elements_for}
-use Rattle.hll_state.specs.Memory.{HasHeader, is_open}
+use Rattle.hll_state.specs.Memory.{HasHeader, HasRoomIn, AreEnough, is_open}
 use Rattle.hll_state.specs.declared.header.Header.{Header}
 use Rattle.hll_state.specs.declared.header.Held.{Held}
 use Rattle.hll_state.specs.declared.header.Held.TheVariants.{Coupons, Registers}
@@ -28,3 +28,13 @@ PrefixIsState = (elements : List (List ℕ)) (h : Header) (m : ℕ) → HasHeade
 -- a state is the same state in longer memory, whatever the elements after it hold
 abbrev pub LongerIsState : Type 0
 LongerIsState = (elements more : List (List ℕ)) (h : Header) → HasHeader elements h → IsSameState elements h (elements ++ more)
+
+-- a state that is moved is the same state, if the elements that it takes were copied, whatever the others hold
+abbrev pub MovedIsState : Type 0
+MovedIsState = (elements others : List (List ℕ)) (h : Header) → HasHeader elements h
+    → take (10 + needed h.lg_k h.held) others ≡ take (10 + needed h.lg_k h.held) elements → IsSameState elements h others
+
+-- a state that is moved to as many elements as were asked for has room for what they were asked for
+abbrev pub AskedIsEnough : Type 0
+AskedIsEnough = (elements others : List (List ℕ)) (n len : ℕ) (are : AreEnough elements n len) → IsSameState elements are.header others → len ≤ length others
+    → HasRoomIn others n (length others)

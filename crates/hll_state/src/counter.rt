@@ -176,7 +176,7 @@ impl CouponTable {
 
     /// Returns the coupons with one more. An element is left for it.
     #[inline(always)]
-    fn with(mut self, body: &mut [[u8; 4]], lg_k: u8, raw: u32) -> CouponTable
+    pub(crate) fn with(mut self, body: &mut [[u8; 4]], lg_k: u8, raw: u32) -> CouponTable
         requires lg_k { IsLgK lg_k }
         requires within { AreWithin lg_k self (length body.old) }
         requires room { HasRoomFor lg_k (spec.of_coupons self) 1 (length body.old) }
@@ -184,6 +184,8 @@ impl CouponTable {
         ensures within { AreWithin lg_k result (length body.old) }
         ensures added { content_of lg_k (spec.of_coupons result) body.new ≡ content_with lg_k (content_of lg_k (spec.of_coupons self) body.old) (set_of (raw ∷ [])) }
         ensures room { (n : ℕ) → HasRoomFor lg_k (spec.of_coupons self) (n + 1) (length body.old) → HasRoomFor lg_k (spec.of_coupons result) n (length body.old) }
+        ensures size { result.lg_size ≡ self.lg_size }
+        ensures added_one { result.added ≡ true }
     {
         self.added = true;
         self.run.push(body, raw);

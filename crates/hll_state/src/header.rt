@@ -21,7 +21,7 @@ pub const HEADER_LEN: usize = 10;
 
 /// The first number of a state that holds coupons. The highest byte, 2, is the version of states: another version has other first
 /// numbers, and its bytes are not a state.
-const COUPONS: u32 = 0x0248_4c41;
+pub(crate) const COUPONS: u32 = 0x0248_4c41;
 /// The first number of a state that holds registers.
 const REGISTERS: u32 = 0x0248_4c42;
 
@@ -263,7 +263,7 @@ fn fits(count: usize, lg_size: u8) -> bool
 /// Returns the greatest number of coupons in use, including repeated ones, before the distinct coupons are counted. `lg_k` is 4
 /// to 21.
 #[inline(always)]
-pub fn most_used(lg_k: u8) -> usize
+pub(crate) fn most_used(lg_k: u8) -> usize
     requires { IsLgK lg_k }
     ensures { result ≡ spec.most_used lg_k }
 {
@@ -272,7 +272,7 @@ pub fn most_used(lg_k: u8) -> usize
 
 /// Returns the number of elements after a header that is enough for every state of this `lg_k`, 4 to 21: for registers, and
 /// next to them for the coupons that become registers.
-pub fn most_elements(lg_k: u8) -> usize
+pub(crate) fn most_elements(lg_k: u8) -> usize
     requires { IsLgK lg_k }
     ensures { result ≡ spec.most_elements lg_k }
 {
@@ -281,7 +281,7 @@ pub fn most_elements(lg_k: u8) -> usize
 
 /// Returns whether this number of coupons never becomes registers. `lg_k` is 4 to 21.
 #[inline(always)]
-pub fn are_few(lg_k: u8, count: usize) -> bool
+pub(crate) fn are_few(lg_k: u8, count: usize) -> bool
     requires { IsLgK lg_k }
     ensures { result ≡ spec.are_few lg_k count }
 {
@@ -289,9 +289,17 @@ pub fn are_few(lg_k: u8, count: usize) -> bool
     can_hold(greatest_size, count)
 }
 
+/// Returns the greatest number of coupons that never become registers. `lg_k` is 4 to 21.
+pub(crate) fn most_few(lg_k: u8) -> usize
+    requires { IsLgK lg_k }
+    ensures { result ≡ spec.most_few lg_k }
+{
+    if lg_k <= 7 { 7 } else { 3 * two_to(lg_k - 5) }
+}
+
 /// Returns the number of elements after a header that is enough for `count` coupons. `lg_k` is 4 to 21.
 #[inline(always)]
-pub fn elements_for(lg_k: u8, count: usize) -> usize
+pub(crate) fn elements_for(lg_k: u8, count: usize) -> usize
     requires { IsLgK lg_k }
     ensures { result ≡ spec.elements_for lg_k count }
 {

@@ -17,7 +17,3 @@ mod merge_table;
 pub mod registers;
 pub mod run;
 mod settle;
-#[cfg(test)]
-mod state_tests;
-#[cfg(test)]
-mod tests;

@@ -1,6 +1,6 @@
 // SPDX-License-Identifier: Apache-2.0
 //! States in caller-owned memory: reading and writing their headers, and making room for more coupons.
-ghost use Rattle.std.specs.Prelude.{◌≡◌, ℕ, ◌+◌, ◌-◌, ◌≤◌, true, false, [], ◌∷◌, length, drop, Some, IfSome, IfNone, IfOk, IfErr};
+ghost use Rattle.std.specs.Prelude.{◌≡◌, ℕ, ◌+◌, ◌-◌, ◌^◌, ◌<◌, ◌≤◌, true, false, [], ◌∷◌, length, drop, Some, slice_set, IfSome, IfNone, IfOk, IfErr};
 ghost use Rattle.hll_sketch.specs.Laws.{add_in_turn};
 ghost use Rattle.hll_sketch.specs.Value.{IsLgK};
 ghost use Rattle.hll_state.specs.Counter.{sketch_in, IsResolved};
@@ -8,11 +8,14 @@ ghost use Rattle.hll_state.specs.CouponRun.{raws};
 ghost use Rattle.hll_state.specs.Header as headers;
 ghost use Rattle.hll_state.specs.Header.{header_of, IsWithin, HasRoom, HasShortTail};
 ghost use Rattle.hll_state.specs.Memory as spec;
+ghost use Rattle.hll_state.specs.declared.header.CouponTable.{CouponTable};
 ghost use Rattle.hll_state.specs.declared.header.Header.{Header};
 ghost use Rattle.hll_state.specs.Memory.{HasHeader, IsState, IsStateOf, OfState, KeepsWidths, IsOnlyRead, IsSettled, IsBegun, IsReady, LacksRoom};
 
 use crate::elements::get;
-use crate::header::{HEADER_LEN, Header, Held, elements_for};
+use crate::header::{
+    COUPONS, CouponTable, HEADER_LEN, Header, Held, are_few, most_elements, most_few, most_used,
+};
 use hll_registers::registers::two_to;
 
 /// Reads the header of a state. Returns `None` if the elements are not a state: too few, or not written by calls of this
@@ -109,6 +112,64 @@ pub fn add_in_place(elements: &mut [[u8; 4]], header: Header, raw: u32) -> bool
     header.push_in_place(&mut elements[HEADER_LEN..], raw)
 }
 
+/// Returns whether the first number is that of a state of coupons: for a caller that chooses a faster way.
+#[inline(always)]
+pub fn may_hold_coupons(elements: &[[u8; 4]]) -> bool {
+    !elements.is_empty() && get(elements, 0) == COUPONS
+}
+
+/// Adds a raw coupon to a state of coupons whose header was read, if an element is left for it. Returns whether one was; if not,
+/// nothing changed.
+#[inline(always)]
+pub fn append(elements: &mut [[u8; 4]], header: Header, raw: u32) -> bool
+    requires header { HasHeader elements.old header }
+    ensures added { result ≡ true → OfState elements.old (λ x. IsStateOf elements.new (add_in_turn x (raw ∷ []))) }
+    ensures widths { KeepsWidths elements.old elements.new }
+    ensures lg_k_open { spec.is_open elements.new ≡ spec.is_open elements.old }
+    ensures none { result ≡ false → elements.new ≡ elements.old }
+{
+    let Held::Coupons(coupons) = header.held else {
+        return false;
+    };
+    if coupons.run.used == most_used(header.lg_k)
+        || !header.has_room(1, elements.len() - HEADER_LEN)
+    {
+        return false;
+    }
+    let more = coupons.with(&mut elements[HEADER_LEN..], header.lg_k, raw);
+    write_used(elements, header, coupons, more);
+    true
+}
+
+/// Writes what has changed in a header once a coupon was added to coupons.
+#[inline(always)]
+fn write_used(elements: &mut [[u8; 4]], header: Header, coupons: CouponTable, more: CouponTable)
+    requires header { HasHeader elements.old header }
+    requires coupons { header.held ≡ headers.of_coupons coupons }
+    requires size { more.lg_size ≡ coupons.lg_size }
+    requires added { more.added ≡ true }
+    requires run { more.run.run < 2 ^ 32 }
+    requires used { more.run.used < 2 ^ 32 }
+    ensures header { header_of (raws elements.new) ≡ Some (record header { held = headers.of_coupons more }) }
+    ensures lg_k_open { spec.is_open elements.new ≡ spec.is_open elements.old }
+    ensures rest { drop 10 elements.new ≡ drop 10 elements.old }
+{
+    set_number(elements, 4, 1);
+    set_number(elements, 5, more.run.run as u32);
+    set_number(elements, 6, more.run.used as u32);
+}
+
+/// Writes a number of a header.
+#[inline(always)]
+fn set_number(elements: &mut [[u8; 4]], at: usize, number: u32)
+    requires at { at < 10 }
+    requires there { 10 ≤ length elements.old }
+    ensures numbers { raws elements.new ≡ slice_set (raws elements.old) at number }
+    ensures rest { drop 10 elements.new ≡ drop 10 elements.old }
+{
+    elements[at] = number.to_le_bytes();
+}
+
 /// The result of `begin`.
 #[derive(Clone, Copy, Debug, PartialEq, Eq)]
 pub enum Begun {
@@ -176,7 +237,7 @@ pub fn resolve(elements: &mut [[u8; 4]]) -> Option<Header>
 impl Header {
     /// Returns whether there is room for `count` more coupons. Repeated coupons are dropped first, if there may be many.
     #[inline(always)]
-    pub fn make_room(&mut self, body: &mut [[u8; 4]], count: usize) -> bool
+    pub(crate) fn make_room(&mut self, body: &mut [[u8; 4]], count: usize) -> bool
         requires { IsWithin self.old (length body.old) }
         ensures within { IsWithin self.new (length body.old) }
         ensures same { sketch_in self.new body.new ≡ sketch_in self.old body.old }
@@ -210,7 +271,7 @@ impl Header {
 
     /// Returns a number of elements, header included, in which the state has room for `count` more coupons, and for half as
     /// many again and eight; or as much room as any state of this `lg_k` needs.
-    pub fn len_for(&self, count: usize) -> usize
+    pub(crate) fn len_for(&self, count: usize) -> usize
         requires lg_k { IsLgK self.now.lg_k }
         ensures asked { result ≡ headers.len_asked self.now.lg_k self.now.held count }
         ensures room { HasRoom self.now count (result - 10) }
@@ -226,13 +287,17 @@ impl Header {
     }
 }
 
-/// Returns a number of elements that is enough for `count` coupons, and for half as many again and eight.
+/// Returns a number of elements that is enough for `count` coupons, and for half as many again and eight, unless that is more than
+/// never become registers.
 fn grown_len(lg_k: u8, count: usize) -> usize
     requires { IsLgK lg_k }
-    ensures asked { result ≡ headers.elements_for lg_k (headers.half_more count) }
+    ensures asked { result ≡ headers.asked_for lg_k count }
     ensures enough { headers.elements_for lg_k count ≤ result }
     ensures most { result ≤ headers.most_elements lg_k }
 {
+    if !are_few(lg_k, count) {
+        return most_elements(lg_k);
+    }
     let grown = count.saturating_add(count / 2 + 8);
-    elements_for(lg_k, grown)
+    grown.min(most_few(lg_k))
 }

@@ -55,7 +55,7 @@ impl Header {
     }
 
     /// Merges 8-bit registers as `merge_registers` does. An empty state of their `lg_k` copies them.
-    pub fn merge_bytes(&mut self, body: &mut [[u8; 4]], src: &RegisterSlice<'_>) -> bool
+    pub(crate) fn merge_bytes(&mut self, body: &mut [[u8; 4]], src: &RegisterSlice<'_>) -> bool
         requires { IsWithin self.old (length body.old) }
         ensures within { IsWithin self.new (length body.old) }
         ensures merged { let x = src.now in

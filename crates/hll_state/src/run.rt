@@ -92,23 +92,6 @@ impl CouponRun {
         self.run = self.used;
     }
 
-    /// Adds ascending coupons. At least as many elements are free as there are others.
-    ///
-    /// It takes one `settle` and one merge, and leaves no tail.
-    pub fn extend_ascending(&mut self, coupons: &mut [[u8; 4]], others: &[[u8; 4]])
-        requires run { IsRun self.old coupons.old }
-        requires room { self.old.used + length others.now ≤ length coupons.old }
-        requires ascends { IsStrictlyIncreasing (raws others.now) }
-        ensures run { IsRun self.new coupons.new }
-        ensures added { members self.new coupons.new ≡ union (members self.old coupons.old) (set_of (raws others.now)) }
-        ensures used { self.new.used ≤ self.old.used + length others.now }
-    {
-        self.settle(coupons);
-        let end = self.used + others.len();
-        self.used = merge(&mut coupons[..end], self.used, others);
-        self.run = self.used;
-    }
-
     /// Returns the bytes of all coupons in use, which ascend as `settle` leaves them: four bytes each, as in a compact image
     /// (docs/FORMAT.md, "What is written").
     pub fn as_bytes<'a>(&self, coupons: &'a [[u8; 4]]) -> &'a [u8]

@@ -146,11 +146,6 @@ closes-none pending piece h e =
       still = h;
     }
 
--- with nothing pending
-pub closes-nothing : (pending piece : List ℕ) → pending ≡ [] → Closes pending piece pending piece []
-closes-nothing [] piece e = record { lines = refl; open_bytes = refl; still = All-nil (λ b. nat_eq b 10 ≡ false) }
-closes-nothing (b ∷ bytes) piece e = absurd (cc)
-
 -- the bytes after the last LF have none
 pub open_line-open : (text : List ℕ) → IsOpen (open_line text)
 open_line-open [] = All-nil (λ b. nat_eq b 10 ≡ false)

@@ -211,13 +211,14 @@ impl Default for Limits {
 }
 
 impl Limits {
-    /// Checks the number of bytes, and the byte that says the `lg_k`. No other byte is looked at.
+    /// Checks the number of bytes, and the `lg_k` in the header. A header that has a fault is within the limits: it is rejected at
+    /// once.
     ///
     /// # Errors
     ///
     /// `InvalidData` with the reason `"limits"` if one is above its limit.
     pub fn check(&self, image: &[u8]) -> Result<(), Error> {
-        let (lg_k, len) = (image.get(3).copied().unwrap_or(0), image.len());
+        let (lg_k, len) = (libhll::head(image).lg_k, image.len());
         if lg_k <= self.lg_k && len <= self.len {
             return Ok(());
         }

@@ -8,6 +8,7 @@ use super::state::State;
 use super::{check_lg_k, Coupon, HllType};
 use crate::common::{Estimation, NumStdDev};
 use crate::error::{or_abort, Error};
+use crate::libhll;
 
 /// A sketch, which counts distinct values.
 ///
@@ -39,8 +40,8 @@ impl HllSketch {
     /// `InvalidData` with the first check that the bytes fail, or `OutOfMemory`.
     pub fn deserialize(bytes: &[u8]) -> Result<Self, Error> {
         let state = State::read(bytes)?;
-        let width = bytes.get(7).map_or(8, |byte| 4 + 2 * (byte >> 2 & 3)); // also that of an empty sketch
-        Ok(Self { state, hll_type: HllType::of_width(width) })
+        let hll_type = HllType::of_width(libhll::head(bytes).width); // also that of an empty sketch
+        Ok(Self { state, hll_type })
     }
 
     /// Returns the image, which other DataSketches libraries read. The same sketch has the same image.
@@ -172,7 +173,7 @@ impl PartialEq for HllSketch {
 impl fmt::Debug for HllSketch {
     fn fmt(&self, f: &mut fmt::Formatter<'_>) -> fmt::Result {
         let found = self.estimation();
-        let stage = self.serialize().get(7).map_or(0, |byte| byte & 3);
+        let stage = libhll::head(&self.serialize()).stage;
         f.debug_struct("HllSketch")
             .field("lg_config_k", &self.lg_config_k())
             .field("target_type", &self.target_type())

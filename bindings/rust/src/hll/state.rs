@@ -38,8 +38,7 @@ impl State {
 
     /// Reads an image. If its header is not one, the error says why.
     pub(super) fn read(image: &[u8]) -> Result<Self, Error> {
-        let lg_k = image.get(3).copied().filter(|lg_k| (4..=21).contains(lg_k)).unwrap_or(4);
-        let mut made = Self::new(lg_k);
+        let mut made = Self::new(libhll::head(image).lg_k.max(4));
         made.join(image)?;
         Ok(made)
     }

@@ -18,8 +18,7 @@ returns-clause-coupons c =
     let b : List ℕ = c.args.bytes.now in
     let says = c.requires.header in
     let size = ap (λ (h : Header). h.lg_arr) says in
-    let k = ap (λ (h : Header). h.lg_k) says in
-    let table : HasSetTable b = record { low = omega (arith, c.if-header-lt-LG_LEAST_SET_BUCKETS.false, size); high = omega (arith, c.if-header.false, size, k, c.requires.has.lg_k.low) } in
+    let table : HasSetTable b = (c.is_set_table.ensures b says).0 c.if-not-is_set_table.false in
     let entry = c.new-cursor.ensures ∙ take_rest b 8 in
     let read = c.in-Ok.ensures.ok in
     IfSome_then c.front.result c.front.ensures.some λ w is. λ are.
@@ -38,8 +37,7 @@ returns-clause-sized c =
     let b : List ℕ = c.args.bytes.now in
     let says = c.requires.header in
     let size = ap (λ (h : Header). h.lg_arr) says in
-    let k = ap (λ (h : Header). h.lg_k) says in
-    let table : HasSetTable b = record { low = omega (arith, c.if-header-lt-LG_LEAST_SET_BUCKETS.false, size); high = omega (arith, c.if-header.false, size, k, c.requires.has.lg_k.low) } in
+    let table : HasSetTable b = (c.is_set_table.ensures b says).0 c.if-not-is_set_table.false in
     let entry = c.new-cursor.ensures ∙ take_rest b 8 in
     let read = c.in-Ok.ensures.ok in
     let whole : 4 ≤ length (drop 8 b) = omega (arith, read.0, ap length entry) in

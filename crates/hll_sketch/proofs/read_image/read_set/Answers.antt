@@ -1,8 +1,8 @@
 -- SPDX-License-Identifier: Apache-2.0
-use Rattle.std.proofs.Common.{arith, ◌≡◌, ◌+◌, ◌*◌, ◌≤◌, length, List, ℕ, take, drop, sym, ap, subst, ◌∙◌, inl, inr}
+use Rattle.std.proofs.Common.{◌≡◌, ◌+◌, ◌*◌, ◌≤◌, length, List, ℕ, take, drop, sym, ap, subst, ◌∙◌, inl, inr}
+use Rattle.std.proofs.lemmas.Bool.{iff_false}
 use Rattle.std.proofs.lemmas.List.{take_rest}
 use Rattle.hll_base.proofs.Errors.{IfErr-passed}
-use Rattle.hll_base.specs.declared.error.Reason.TheVariants.{Memory}
 use Rattle.hll_base.specs.declared.error.Reason.{Reason}
 use Rattle.hll_base.specs.declared.error.Reason.TheVariants as reasons
 use Rattle.hll_coupons.specs.Coupons.{AreCoupons}
@@ -18,21 +18,15 @@ use Rattle.hll_sketch.proofs.FirstFailing.{set_first, set_table_first, set_asked
 use Rattle.hll_sketch.proofs.FrontImages.{read_as-set}
 use Rattle.hll_sketch.proofs.Refusals.{refused}
 use Rattle.hll_sketch.proofs.read_image.read_set.Goals as goal
-use Rattle.hll_sketch.proofs.read_image.read_set.Goals.{then-header-lt-LG_LEAST_SET_BUCKETS-via-then-header-lt-LG_LEAST_SET_BUCKETS, then-header-lt-LG_LEAST_SET_BUCKETS-via-else-header-lt-LG_LEAST_SET_BUCKETS+then-header}
 
 -- what was passed to the reader of sets is the shape of the image
 same_shape : (b : List ℕ) (h : Header) (lg : ℕ) → h ≡ header_of b → lg ≡ h.lg_arr → shape_of_set lg h.compact ≡ set_shape b
 same_shape b h lg is size = λ i. record { lg_size = (size ∙ ap (λ (x : Header). x.lg_arr) is) i; compact = ap (λ (x : Header). x.compact) is i }
 
-pub returns-then-header-lt-LG_LEAST_SET_BUCKETS-clause-err : goal.returns-then-header-lt-LG_LEAST_SET_BUCKETS-clause-err
-returns-then-header-lt-LG_LEAST_SET_BUCKETS-clause-err g c =
+pub returns-then-not-is_set_table-clause-err : goal.returns-then-not-is_set_table-clause-err
+returns-then-not-is_set_table-clause-err g c =
     let b : List ℕ = c.args.bytes.now in
-    let arr = ap (λ (h : Header). h.lg_arr) c.requires.header in
-    let k = ap (λ (h : Header). h.lg_k) c.requires.header in
-    let none : HasSetTable b → ⊥ = λ t. elim c.then-header-lt-LG_LEAST_SET_BUCKETS.branch [
-      | then-header-lt-LG_LEAST_SET_BUCKETS-via-then-header-lt-LG_LEAST_SET_BUCKETS w ↦ omega (arith, w.if-header-lt-LG_LEAST_SET_BUCKETS.true, arr, t.low)
-      | then-header-lt-LG_LEAST_SET_BUCKETS-via-else-header-lt-LG_LEAST_SET_BUCKETS+then-header w ↦ omega (arith, w.if-header.true, arr, k, t.high)
-    ] in
+    let none : HasSetTable b → ⊥ = iff_false (c.is_set_table.ensures b c.requires.header) c.if-not-is_set_table.true in
     subst (IsRefusal b) (sym c.new.ensures) (refused b reasons.LgArr (set_table_first b c.requires.has none) (λ e. cc))
 
 pub returns-then-few_are_faulty-clause-err : goal.returns-then-few_are_faulty-clause-err
@@ -51,9 +45,7 @@ pub returns-in_err-set-clause-err : goal.returns-in_err-set-clause-err
 returns-in_err-set-clause-err g c =
     let b : List ℕ = c.args.bytes.now in
     let e = c.in_err-set.field-0.0 in
-    let arr = ap (λ (h : Header). h.lg_arr) c.requires.header in
-    let k = ap (λ (h : Header). h.lg_k) c.requires.header in
-    let table : HasSetTable b = record { low = omega (arith, c.if-header-lt-LG_LEAST_SET_BUCKETS.false, arr); high = omega (arith, c.if-header.false, arr, k, c.requires.has.lg_k.low) } in
+    let table : HasSetTable b = (c.is_set_table.ensures b c.requires.header).0 c.if-not-is_set_table.false in
     let shape = same_shape b c.args.header c.from.result c.requires.header c.from.ensures in
     let entry = c.new-2.ensures ∙ take_rest b 8 in
     IfErr-passed (IsRefusal b) c.from_residual.result e c.from_residual.ensures.1 (record {
@@ -76,9 +68,7 @@ pub returns-clause-ok : goal.returns-clause-ok
 returns-clause-ok g c =
     let b : List ℕ = c.args.bytes.now in
     let t : Table = c.in_ok-set.set in
-    let arr = ap (λ (h : Header). h.lg_arr) c.requires.header in
-    let k = ap (λ (h : Header). h.lg_k) c.requires.header in
-    let table : HasSetTable b = record { low = omega (arith, c.if-header-lt-LG_LEAST_SET_BUCKETS.false, arr); high = omega (arith, c.if-header.false, arr, k, c.requires.has.lg_k.low) } in
+    let table : HasSetTable b = (c.is_set_table.ensures b c.requires.header).0 c.if-not-is_set_table.false in
     let shape = same_shape b c.args.header c.from.result c.requires.header c.from.ensures in
     let entry = c.new-2.ensures ∙ take_rest b 8 in
     let same : Given (set_shape b) (drop 8 b) t = subst (λ h. Given h (drop 8 b) t) shape (subst (λ xs. Given (shape_of_set c.from.result c.args.header.compact) xs t) entry c.in_ok-set.ensures.ok) in
