@@ -2,13 +2,12 @@
 # SPDX-License-Identifier: Apache-2.0
 """Measures the program on whole plans, compared with the least work on their text: time, instructions and memory.
 
-The baseline is the small program hll_baseline: it reads the same text in pieces, finds its lines, decodes the words of
-`image` lines by the same crate into one buffer, and reads the numbers of other lines. Each plan is written to a
-temporary file, and program and baseline run on it in turn. Printed are the medians of their processor times, the median of
-the ratios of the pairs, the instructions that callgrind counts on a smaller plan of the same kind (where valgrind is
-installed) with their ratio, and the least address space that is enough, the program itself included. What the program
-prints is compared with a plain model. The random numbers are the same at each run. Without the programs' paths they
-are built if need be.
+The baseline is the small program baseline.c: it reads the same text in pieces, finds its lines, decodes the words of `image`
+lines into one buffer, and reads the numbers of other lines. Each plan is written to a temporary file, and program and baseline
+run on it in turn. Printed are the medians of their processor times, the median of the ratios of the pairs, the instructions that
+callgrind counts on a smaller plan of the same kind (where valgrind is installed) with their ratio, and the least address space
+that is enough, the program itself included. What the program prints is compared with a plain model. The random numbers are the
+same at each run. Without the program's path it is built if need be. Needs a C compiler.
 
 Targets, as ratios to the baseline.
 
@@ -21,6 +20,7 @@ import math
 import pathlib
 import random
 import sys
+import tempfile
 from dataclasses import dataclass
 from typing import Callable
 
@@ -174,7 +174,6 @@ def measure(row, programs, pairs):
 def arguments():
     parser = argparse.ArgumentParser(description="Measures the program on whole plans.")
     parser.add_argument("program", nargs="?", type=pathlib.Path, help="the program hll_merge")
-    parser.add_argument("--baseline", type=pathlib.Path, help="the program hll_baseline")
     parser.add_argument("--only", default="", metavar="WORDS", help="the rows whose names have these words")
     parser.add_argument("--pairs", type=int, default=PAIRS, help="how often program and baseline run")
     return parser.parse_args()
@@ -182,12 +181,13 @@ def arguments():
 
 def main():
     given = arguments()
-    programs = [path.resolve() for path in (given.program or built_program(), given.baseline or built_baseline())]
     print(machine())
     print("%-46s %8s %8s %6s %9s %9s %6s %9s" % ("plan", "ms", "baseline", "ratio", "mega-ins.", "baseline", "ratio", "kilobytes"))
-    for row in ROWS:
-        if given.only in row.name:
-            measure(row, programs, given.pairs)
+    with tempfile.TemporaryDirectory() as folder:
+        programs = [(given.program or built_program()).resolve(), built_baseline(folder)]
+        for row in ROWS:
+            if given.only in row.name:
+                measure(row, programs, given.pairs)
 
 
 if __name__ == "__main__":

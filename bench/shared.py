@@ -12,13 +12,13 @@ import sys
 import tempfile
 
 ROOT = pathlib.Path(__file__).resolve().parent.parent
-BASELINE = ROOT / "crates" / "hll_baseline"
 
 
-def built_baseline():
-    """The baseline, proved and built."""
-    subprocess.run(["rt", "run"], cwd=BASELINE, input=b"", stdout=subprocess.DEVNULL, stderr=subprocess.DEVNULL, check=True)
-    return BASELINE / "out" / "hll_baseline"
+def built_baseline(folder):
+    """The baseline, compiled into a folder."""
+    program = pathlib.Path(folder) / "baseline"
+    subprocess.run(["cc", "-O2", "-std=c11", "-D_POSIX_C_SOURCE=200809L", ROOT / "bench" / "baseline.c", "-o", program], check=True)
+    return program
 
 
 def plan_file():

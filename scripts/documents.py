@@ -36,7 +36,7 @@ ROOT = pathlib.Path(__file__).resolve().parent.parent
 
 # On these pages each name in backticks is declared in a crate, but for those that are others'.
 DECLARED = {
-    "PROVED.md": {"dac8208d650f15bf", "pshufb", "pmaddubsw", "pmaddwd", "hex", "hll", "linked_list_allocator", "memchr"},
+    "PROVED.md": {"dac8208d650f15bf", "pshufb", "pmaddubsw", "pmaddwd", "hex", "hll", "linked_list_allocator"},
     "MODEL.md": set(),
 }
 # What the command rt does.
@@ -82,11 +82,26 @@ def named_files(text):
 
 
 def is_there(page, name):
-    """Whether a path is there, from the top or from the page's own folder; what is built needn't be, nor what stands for names."""
-    if re.search(r"/(CRATE|NAME)\b", name) or "/build/" in name + "/" or "/out/" in name or name.startswith("bench/rust/target"):
+    """Whether a path is there in a new checkout, from the top or from the page's own folder. What is built needn't be, nor what
+    stands for names."""
+    if re.search(r"/(CRATE|NAME)\b", name) or "/build/" in name + "/" or "/out/" in name:
         return True
     places = (ROOT / name, page.parent / name, ROOT / "docs" / name)
-    return any(place.exists() for place in places)
+    return any(place.exists() and place.resolve() not in ignored_files(ROOT) for place in places)
+
+
+def listed_by_git(root, *words):
+    """The files that `git ls-files` lists; none where this is no checkout of git."""
+    if not (root / ".git").exists() or not shutil.which("git"):
+        return []
+    found = subprocess.run(["git", "ls-files", "-z", *words], cwd=root, capture_output=True, text=True, check=True)
+    return [name for name in found.stdout.split("\0") if name]
+
+
+@functools.lru_cache(maxsize=None)
+def ignored_files(root):
+    """The files that are here and that .gitignore leaves out, so that a new checkout lacks them."""
+    return {(root / name).resolve() for name in listed_by_git(root, "--others", "--ignored", "--exclude-standard")}
 
 
 def named_sections(text):
@@ -191,9 +206,8 @@ def faults_of_scripts():
 
 def faults_of_ignored_files():
     """Files that git keeps although .gitignore leaves them out; none where this is no checkout of git."""
-    if (ROOT / ".git").exists() and shutil.which("git"):
-        found = subprocess.run(["git", "ls-files", "-z", "-c", "-i", "--exclude-standard"], cwd=ROOT, capture_output=True, text=True, check=True)
-        yield from (f"{name}: git keeps it, and .gitignore leaves it out: git rm --cached" for name in found.stdout.split("\0") if name)
+    for name in listed_by_git(ROOT, "--cached", "--ignored", "--exclude-standard"):
+        yield f"{name}: git keeps it, and .gitignore leaves it out: git rm --cached"
 
 
 def faults_of_quotes(page, text):
@@ -405,10 +419,6 @@ def faults_of_others(code):
                 yield f"no part {word} of ./check"
     for words in calls_of("rt", code):
         yield from (f"no command rt {word}" for word in words[:1] if word not in TOOLCHAIN)
-    bins = re.findall(r'^name = "(\w+)"', (ROOT / "bench/rust/Cargo.toml").read_text(), re.M)
-    for name in re.findall(r"cargo run .*?--bin (\S+?)[\s)]", code + " "):
-        if name not in bins:
-            yield f"no program {name} of bench/rust"
 
 
 def faults_of_commands(text, words):

@@ -47,6 +47,15 @@ class CheckoutTest(unittest.TestCase):
         self.git("rm", "-q", "--cached", "made.txt", "out/made.txt")
         self.assertEqual(list(documents.faults_of_ignored_files()), [])
 
+    def test_a_page_that_names_a_file_which_git_ignores(self):
+        self.git("init", "-q")
+        page = self.root / "README.md"
+        self.put("docs/made.txt", "made\n")
+        self.assertTrue(documents.is_there(page, "docs/made.txt"))
+        self.put(".gitignore", "/docs/made.txt\n")
+        documents.ignored_files.cache_clear()
+        self.assertFalse(documents.is_there(page, "docs/made.txt"))
+
     def test_no_checkout_of_git(self):
         self.assertEqual(list(documents.faults_of_ignored_files()), [])
 

@@ -4,8 +4,10 @@
 
     scripts/mutants.py [--all] [--log FOLDER] [CRATE ..]       those of mutants/CRATE, of all crates if none is named
     scripts/mutants.py [CRATE ..] --only NAME ..                these alone, of crates/CRATE/must-fail too
+    scripts/mutants.py --as-proved [--all] [--log FOLDER]       next to `rt ci`, whose output it reads: those of each crate once
+                                                                that is proved
 
-Run `rt ci` or `rt check` first: a check reads the libraries that they leave. A mutant is a file NAME.edit with a line
+Otherwise run `rt ci` or `rt check` first: a check reads the libraries that they leave. A mutant is a file NAME.edit with a line
 'file: src/..' and pairs of lines 'old: TEXT' and 'new: TEXT', as in crates/CRATE/must-fail, whose mutants `rt ci` tries
 itself, one by one.
 
@@ -34,10 +36,11 @@ import threading
 from concurrent.futures import FIRST_COMPLETED, ThreadPoolExecutor, wait
 
 sys.dont_write_bytecode = True
-from prover import CALLEE, NAMES, OWN, PROVED, Prover, Stopped, Unusable
+from prover import CALLEE, NAMES, OWN, PROVED, Progress, Prover, Stopped, Unusable
 
 ROOT = pathlib.Path(__file__).resolve().parent.parent
-TOGETHER = 20       # the most mutants in one check: two checks side by side end sooner than a long one
+TOGETHER = 30       # about the most mutants in one check: two checks side by side end sooner than a long one
+NICE = 10           # next to `rt ci`, which the gate waits for
 
 # What came of a mutant. `how` says whether it was tried "together" with others or "alone", or was "kept" from an earlier run.
 Verdict = collections.namedtuple("Verdict", "mutant word how words")
@@ -139,23 +142,23 @@ def names_around(lines, at, indent):
 
 
 def rounds_of(mutants):
-    """Returns the mutants in as few rounds as are needed for no function to be changed twice in one."""
-    rounds = []
-    for mutant in mutants:
-        free = [it for it in rounds if len(it) < TOGETHER and mutant.function() not in {other.function() for other in it}]
-        if not free:
-            rounds.append([])
-        (free or rounds)[0 if free else -1].append(mutant)
+    """Returns the mutants in as few rounds as are needed for no function to be changed twice in one, each about as long."""
+    of = collections.Counter(it.function() for it in mutants)
+    rounds = [[] for _ in range(max([-(-len(mutants) // TOGETHER), *of.values()]))]
+    for mutant in sorted(mutants, key=lambda it: (-of[it.function()], it.function())):
+        free = [it for it in rounds if mutant.function() not in {other.function() for other in it}]
+        min(free, key=len).append(mutant)
     return rounds
 
 
 # ---- The work on one crate ----
 
 class Work:
-    """The mutants of one crate, and how they are tried."""
+    """The mutants of one crate, and how they are tried. `is_proved` says that `rt ci` has just proved the crate: then a round
+    needs no check of the crate without mutants."""
 
-    def __init__(self, prover, name, mutants, is_passed, store):
-        self.prover, self.name, self.mutants, self.is_passed = prover, name, mutants, is_passed
+    def __init__(self, prover, name, mutants, is_proved, store):
+        self.prover, self.name, self.mutants, self.is_proved = prover, name, mutants, is_proved
         self.sources = pathlib.Path(prover.crate(name).folder)
         self.store, self.room, self.fault, self.alone = store, None, None, threading.Lock()
 
@@ -182,7 +185,7 @@ class Work:
 
     def has_known_libraries(self):
         """Returns whether the libraries below the crate are known to be built of their sources as they stand."""
-        return self.is_passed or self.prover.has_stamps(self.name)
+        return self.is_proved or self.prover.has_stamps(self.name)
 
     def keep(self, verdicts):
         """Keeps verdicts for later runs, unless libraries aren't known or sources were changed meanwhile."""
@@ -209,7 +212,7 @@ class Work:
         """Returns verdicts on mutants of different functions: by one check where that can be read, and else on each alone."""
         try:
             known = [it for it in mutants if it.function()]
-            settled = self.together(known, None if self.is_passed else self.start()) if known else {}
+            settled = self.together(known, None if self.is_proved else self.start()) if known else {}
             return [settled.get(it) or self.try_alone(it) for it in mutants]
         except Unusable as why:
             return [Verdict(it, UNTRIED, "alone", str(why)) for it in mutants]
@@ -325,48 +328,71 @@ def found_mutants(root, folder, crates, only):
     return found, faults + ["no mutant was found"] * (not found and not faults)
 
 
-def run_all(prover, jobs):
-    """Runs jobs side by side, as many as there is room for, and gives the verdicts of each as it ends. A job is a crate's work and
-    the mutants to try together."""
-    pool = ThreadPoolExecutor(os.cpu_count() or 1)
-    running, waiting = {}, list(jobs)
-    try:
-        while waiting or running:
-            if waiting and (not running or prover.has_room(waiting[0][0].name)):
-                work, mutants = waiting.pop(0)
-                running[pool.submit(work.try_round, mutants)] = work
-            for it in wait(running, timeout=2, return_when=FIRST_COMPLETED).done:
-                running.pop(it).keep(it.result())
-                yield it.result()
-    finally:
-        if running:
-            prover.stop()
-        pool.shutdown()
+class Trial:
+    """The mutants of all crates, which are tried side by side, as many as there is room for. `found` has them by crate; those of
+    a crate are begun once it is proved, if `progress` says how far `rt ci` is, and else at once."""
 
+    def __init__(self, prover, found, is_whole=False, progress=None):
+        self.prover, self.progress, self.left = prover, progress, dict(found)
+        self.stores = {name: Store(name, prover.sum_of(name), is_whole) for name in found}      # as `rt ci` begins, so what it reads
+        self.works, self.waiting, self.running = [], [], {}
+        self.pool = ThreadPoolExecutor(os.cpu_count() or 1)
 
-def try_all(prover, found, is_whole=False):
-    """Tries the mutants, found by crate, and gives the verdicts on them as they come."""
-    passed, works, jobs = None, [], []
-    for name, mutants in found.items():
-        store = Store(name, prover.sum_of(name), is_whole)
+    def verdicts(self):
+        """Gives the verdicts as they come, some at a time."""
+        try:
+            while self.left or self.waiting or self.running:
+                yield from self.begun()
+                self.submit()
+                if not self.running and self.left:
+                    self.progress.wait(2)
+                for it in wait(self.running, timeout=2, return_when=FIRST_COMPLETED).done:
+                    self.running.pop(it).keep(it.result())
+                    yield it.result()
+        finally:
+            self.close()
+
+    def begun(self):
+        """Begins those crates that can be begun, and gives the verdicts on their mutants that are known at once."""
+        is_last = self.progress is None or self.progress.has_ended
+        for name in [it for it in self.left if self.progress is None or it in self.progress.proved]:
+            yield from self.begin(name, self.left.pop(name))
+        if is_last:
+            for mutants in self.left.values():
+                yield [Verdict(it, UNTRIED, "alone", "`rt ci` has not proved the crate") for it in mutants]
+            self.left = {}
+
+    def begin(self, name, mutants):
+        """Begins a crate: adds its jobs, each of its work and the mutants to try together, and gives the verdicts that are known."""
+        store = self.stores[name]
         kept = [it for it in mutants if it.sum in store.known and not it.fault]
         yield [Verdict(it, REJECTED, "kept", store.known[it.sum]) for it in kept]
         yield [Verdict(it, BAD, "alone", it.fault) for it in mutants if it.fault]
         new = [it for it in mutants if it not in kept and not it.fault]
-        lacking = new and prover.lacking(name)
+        lacking = new and self.prover.lacking(name)
         if lacking:
             yield [Verdict(it, UNTRIED, "alone", "run `rt ci` first: these libraries are not built: " + " ".join(lacking)) for it in new]
         elif new:
-            passed = prover.passed(found) if passed is None else passed
-            work = Work(prover, name, new, name in passed, store)
-            works.append(work)
-            jobs += [(work, it) for it in rounds_of([it for it in new if it.function()])]
-            jobs += [(work, [it]) for it in new if not it.function()]
-    jobs.sort(key=lambda it: -len(it[1]) * prover.need(it[0].name))      # the longest first
-    try:
-        yield from run_all(prover, jobs)
-    finally:
-        for work in works:
+            work = Work(self.prover, name, new, self.progress is not None, store)
+            self.works.append(work)
+            self.waiting += [(work, it) for it in rounds_of([it for it in new if it.function()])]
+            self.waiting += [(work, [it]) for it in new if not it.function()]
+            self.waiting.sort(key=lambda it: -len(it[1]) * self.prover.need(it[0].name))      # the longest first
+
+    def submit(self):
+        """Begins the next job if there is room. Next to `rt ci`, half of the processors are left to it."""
+        is_alone = self.progress is None or self.progress.has_ended
+        has_place = is_alone or len(self.running) < max(1, (os.cpu_count() or 1) // 2)
+        if self.waiting and (not self.running or has_place and self.prover.has_room(self.waiting[0][0].name)):
+            work, mutants = self.waiting.pop(0)
+            self.running[self.pool.submit(work.try_round, mutants)] = work
+
+    def close(self):
+        """Ends what runs, and removes what was kept for the time of the run."""
+        if self.running:
+            self.prover.stop()
+        self.pool.shutdown()
+        for work in self.works:
             work.close()
 
 
@@ -382,8 +408,12 @@ def main(words):
         print("FAIL: " + it)
     if given.log:
         given.log.mkdir(parents=True, exist_ok=True)
-    passed, failed = 0, len(faults)
-    for verdicts in try_all(Prover(ROOT, given.log), found, given.all):
+    passed, failed, progress = 0, len(faults), None
+    if given.as_proved:
+        os.nice(NICE)
+        sys.stdin.reconfigure(errors="replace")
+        progress = Progress(sys.stdin)
+    for verdicts in Trial(Prover(ROOT, given.log), found, given.all, progress).verdicts():
         rejected = sum(it.word == REJECTED for it in verdicts)
         passed, failed = passed + rejected, failed + len(verdicts) - rejected
         report(verdicts, given.only)
@@ -392,12 +422,17 @@ def main(words):
 
 
 def report(verdicts, each):
-    """Prints verdicts, and of those that were kept only how many there are, unless each is asked for."""
+    """Prints the verdicts on mutants of one crate; of those that were kept, and of those that can't be tried for one reason, only how
+    many there are, unless each is asked for."""
+    many = {it.words for it in verdicts if it.word == UNTRIED and len(verdicts) > 1 and not each}
     kept = [it for it in verdicts if it.how == "kept" and not each]
     for it in verdicts:
-        if it not in kept:
+        if it not in kept and it.words not in many:
             mark = "" if it.word == REJECTED else "FAIL: "
             print("%s%s/%s: %s, %s: %s" % (mark, it.mutant.crate, it.mutant.name, it.word, it.how, it.words[:200]), flush=True)
+    for words in sorted(many):
+        count, crate = sum(it.words == words for it in verdicts), verdicts[0].mutant.crate
+        print("FAIL: %s: %s, %d mutants: %s" % (crate, UNTRIED, count, words[:200]), flush=True)
     if kept:
         count, crate = len(kept), kept[0].mutant.crate
         print("kept: %s: an earlier run over the same sources saw %d of its mutants rejected" % (crate, count), flush=True)
@@ -406,6 +441,7 @@ def report(verdicts, each):
 def read_words(words):
     """Returns what the command line asks for."""
     parser = argparse.ArgumentParser(prog="mutants.py", description=__doc__, formatter_class=argparse.RawDescriptionHelpFormatter)
+    parser.add_argument("--as-proved", action="store_true", help="read what `rt ci` prints, and try the mutants of each crate once it is proved")
     parser.add_argument("--all", action="store_true", help="also try what earlier runs saw rejected")
     parser.add_argument("--log", type=pathlib.Path, metavar="FOLDER", help="write there what each check says")
     parser.add_argument("--only", nargs="+", default=[], metavar="NAME", help="try these mutants alone")

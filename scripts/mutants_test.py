@@ -126,6 +126,14 @@ def try_made_up():
         yield "where alone " + name, made_up_words(both[:1], MadeUp("", 1, alone)), [wanted]
 
 
+def try_progress():
+    """Gives what is read of the lines of `rt ci`."""
+    progress = prover.Progress(iter(["== hll_base\n", "rt: hll_base proved\n", "rt: hll_base: its tests are proved\n", "rt: hll_c NOT PROVED\n"]))
+    yield "a crate that is proved", progress.wait_for(it for it in [CRATE]), True
+    yield "a crate that is not", progress.wait_for(it for it in [CRATE, "hll_c"]), False
+    yield "all that is proved", (progress.proved, progress.has_ended), ({CRATE}, True)
+
+
 def try_folders():
     """Gives what must be a fault of the folders of mutants."""
     for name, made, wanted in (
@@ -150,7 +158,7 @@ def try_real(real):
         every = mutants_of(folder, REAL)
     good = [it for it in every if not it.fault]
     yield "an old text that is absent", [it.name for it in every if it.fault], ["absent"]
-    with contextlib.closing(mutants.Work(real, CRATE, good, CRATE in real.passed([CRATE]), None)) as work:
+    with contextlib.closing(mutants.Work(real, CRATE, good, False, None)) as work:
         rounds = mutants.rounds_of([it for it in good if it.function()]) + [[it] for it in good if not it.function()]
         for it in [it for some in rounds for it in work.try_round(some)]:
             yield "%s: %s" % (it.mutant.name, it.words[:120]), (it.word, it.how), REAL[it.mutant.name][2:]
@@ -177,7 +185,7 @@ def main(words):
         print("kept: an earlier run over the same sources passed\n" + kept.read_text(), end="")
         return 0
     passed, failed = 0, 0
-    for tests in (try_made_up(), try_folders(), try_real(real)):
+    for tests in (try_made_up(), try_progress(), try_folders(), try_real(real)):
         for name, got, wanted in tests:
             is_well = got == wanted
             passed, failed = passed + is_well, failed + (not is_well)

@@ -4,6 +4,7 @@
 module (prebuilt/README.md). For other systems it makes text of the library that is not committed.
 
     scripts/prebuilt.py            after `rt ci`: makes the text again from what was proved, and compares it with prebuilt/
+    scripts/prebuilt.py --as-proved    the same next to `rt ci`, whose output it reads: each text once what is below it is proved
     scripts/prebuilt.py --prove    the same after proving the library and the programs by `rt lib`
     scripts/prebuilt.py --write    writes prebuilt/ whatever is there
     scripts/prebuilt.py --wasm     makes only hll.wasm again, where its C files have changed, in under a minute: from what an earlier
@@ -56,6 +57,7 @@ OTHER_COMPILER = OTHERS / "other-compiler.a"
 OTHER_TOOLCHAIN = OTHERS / "other-toolchain.s"
 OTHER_ARCHIVE = OTHERS / "other-toolchain.a"
 NEED = 4_000_000_000    # bytes of memory that one proof takes at most, with its jobs
+NICE = 5                # next to `rt ci`, which the gate waits for
 KEPT = " incremental=trusted"       # in the prover's last line: a library was proved over what an earlier check had kept
 # The module for JavaScript, and the script that links it.
 WASM = "wasm/hll.wasm"
@@ -271,14 +273,20 @@ def module_for(target):
 
 def keep_module(file, target):
     """Keeps LLVM's module of the library, with the checksum of the sources that it was made of."""
-    OTHERS.mkdir(exist_ok=True)
     shutil.copyfile(file, module_for(target))
     module_for(target).with_suffix(".sources").write_text(asked("sum"))
 
 
-def made(rtlib, text, jobs):
-    """Proves a text's crate for its processor and compiles it. Returns the text, and what VERDICT has of the prover's lines."""
+class NotProved(Exception):
+    """`rt ci` has not proved a library."""
+
+
+def made(rtlib, text, jobs, progress=None):
+    """Proves a text's crate for its processor and compiles it, where `rt ci` still runs once that has proved the libraries below it.
+    Returns the text, and what VERDICT has of the prover's lines."""
     crate = rtlib.Crate(str(ROOT / "crates" / text.crate), str(ROOT), {}, name=None)
+    if progress and not progress.wait_for(it.name for it in crate.below()):
+        raise NotProved("a library below %s is not proved" % text.crate)
     words = [*crate.words(["--jobs", str(jobs)], keeps=False), *text.words]
     with tempfile.TemporaryDirectory() as room:
         room = pathlib.Path(room)
@@ -290,6 +298,7 @@ def made(rtlib, text, jobs):
         call(rtlib, text.crate, "build", *words, "--toolchain", str(tools), "--backend", "llvm", "-o", str(room / "built"))
         if not kept.is_file():
             raise Unknown("the compiler of the toolchain was not called as clang")
+        OTHERS.mkdir(parents=True, exist_ok=True)
         if text in MODULES:
             keep_module(str(kept) + ".bc", text.target)
         if text == MODULES[0]:
@@ -452,8 +461,9 @@ def link_again():
     return 1, 0
 
 
-def make_all():
-    """Makes every file. Returns a verdict, the files' bytes by their paths, and those of the texts for other systems."""
+def make_all(progress=None):
+    """Makes every file, next to `rt ci` if its progress is given. Returns a verdict, the files' bytes by their paths, and those of the
+    texts for other systems."""
     rtlib = toolchain()
     want_binaryen(asked("sum"))
     at_once = next((count for count in (len(TEXTS), 3, 2) if rtlib.fits(*[NEED] * count)), 1)
@@ -461,7 +471,7 @@ def make_all():
     # the library takes longest, so its texts come first
     ordered = sorted(TEXTS, key=lambda text: text.crate in PROGRAMS.values())
     with ThreadPoolExecutor(at_once) as runs:
-        found = dict(zip(ordered, runs.map(lambda text: made(rtlib, text, jobs), ordered)))
+        found = dict(zip(ordered, runs.map(lambda text: made(rtlib, text, jobs, progress), ordered)))
     texts = {text.path: words.encode() for text, (words, _) in found.items()}
     files = {path: sum_of(data) for path, data in texts.items()}
     verdict = Verdict(kit(), asked("sum"), {text.path: said for text, (_, said) in found.items()}, files)
@@ -552,10 +562,18 @@ def main():
     if "--prove" in sys.argv[1:]:
         for library in LIBRARIES:
             lib(library)
+    progress = None
+    if "--as-proved" in sys.argv[1:]:
+        os.nice(NICE)
+        sys.stdin.reconfigure(errors="replace")
+        progress = prover.Progress(sys.stdin)
     alone = {"--wasm": link_again, "--texts": texts_again}
     try:
         words = [word for word in sys.argv[1:] if word in alone]
-        passed, failed = alone[words[0]]() if words else settle(*make_all(), "--write" in sys.argv[1:])
+        passed, failed = alone[words[0]]() if words else settle(*make_all(progress), "--write" in sys.argv[1:])
+    except NotProved as why:
+        print("failed: %s" % why)
+        passed, failed = 0, 1
     except Exception as why:    # of the toolchain's own code, whatever it is
         passed, failed = go_on_without_text(why)
     print("%d passed, %d failed" % (passed, failed))

@@ -8,7 +8,6 @@ import collections
 import hashlib
 import importlib.machinery
 import importlib.util
-import json
 import os
 import pathlib
 import re
@@ -89,6 +88,44 @@ class Heard:
         return [words for name, line, words in self.notes if name == file and first <= line <= last]
 
 
+# ---- What is read of `rt ci` as it goes ----
+
+CRATE = re.compile(r"rt: (\w+) proved")
+
+
+class Progress:
+    """The crates that `rt ci` has proved so far, by the lines that it prints. A thread reads all of them, so that `rt ci` never
+    waits for a reader."""
+
+    def __init__(self, lines):
+        self.proved, self.has_ended, self.changed = set(), False, threading.Condition()
+        threading.Thread(target=self.read, args=[lines], daemon=True).start()
+
+    def read(self, lines):
+        for line in lines:
+            found = CRATE.fullmatch(line.rstrip())
+            if found:
+                with self.changed:
+                    self.proved.add(found[1])
+                    self.changed.notify_all()
+        with self.changed:
+            self.has_ended = True
+            self.changed.notify_all()
+
+    def wait(self, seconds):
+        """Waits until one more crate is proved or `rt ci` has ended, but no longer than some seconds."""
+        with self.changed:
+            if not self.has_ended:
+                self.changed.wait(seconds)
+
+    def wait_for(self, names):
+        """Waits until `rt ci` has proved these crates, or has ended. Returns whether it has proved them."""
+        wanted = set(names)
+        with self.changed:
+            self.changed.wait_for(lambda: self.has_ended or self.proved >= wanted)
+            return self.proved >= wanted
+
+
 # ---- How it is called ----
 
 class Unusable(Exception):
@@ -128,19 +165,6 @@ class Prover:
         """Returns the toolchain's own object for a crate."""
         folder = str(self.root / "crates" / name)
         return self.known.setdefault(folder, self.rtlib.Crate(folder, str(self.root), self.known))
-
-    def passed(self, names):
-        """Returns those crates that `rt ci` proved on this machine exactly as they stand, over the libraries that stand below
-        them. Where its records can't be read there are none."""
-        try:
-            gate = loaded("rt_gate", self.commands / "rt")
-            gate.Crate.allowed = gate.handles_of(str(self.root))
-            kept, found = gate.Kept([]), {}
-            for name in names:
-                add_passed(kept, gate.Crate(str(self.root / "crates" / name), str(self.root), {}), found)
-            return {name for name, is_passed in found.items() if is_passed}
-        except (Exception, SystemExit):     # of the toolchain's own code, whatever it is
-            return set()
 
     def sum_of(self, name):
         """Returns the checksum of all that a check of the crate reads: the sources of it and of those below, the toolchain's
@@ -230,25 +254,6 @@ class Prover:
             self.stopped = True
             for ran in self.running:
                 ran.kill()
-
-
-def add_passed(kept, crate, found):
-    """Notes of a crate and of those below it, by name, whether the records of `rt ci` have it as it stands, with its library."""
-    for it in [*crate.below(), crate]:
-        if it.name not in found:
-            below = all(found[low.name] for low in it.below())
-            place = kept.place(it, False, kept.key(it))
-            kept.is_built(it)       # which sums up the library that stands, for the keys of those above
-            found[it.name] = below and library_in(place) == kept.rlibs[it.name]
-
-
-def library_in(place):
-    """Returns the sum of the library that `rt ci` kept in a folder, or None if nothing was kept there."""
-    try:
-        files = json.loads(pathlib.Path(place, "made.json").read_text())["files"]
-    except (OSError, ValueError, KeyError):
-        return None
-    return hashlib.sha256(repr([tuple(it) for it in files]).encode()).hexdigest()
 
 
 def memory_of(process):

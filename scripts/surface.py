@@ -23,7 +23,7 @@ SURFACE = ROOT / "surface"
 LISTS = SURFACE / "lists"
 
 # Crates that only measure or test.
-OTHERS = re.compile(r"hll_(bench|fakes|baseline|vectors)|.*_tests")
+OTHERS = re.compile(r"hll_(fakes|vectors)|.*_tests")
 
 # An item that is public, up to its name.
 ITEM = re.compile(r"pub (?:const )?(?:unsafe )?(?:extern \"C\" )?(fn|struct|enum|trait|type|const) (\w+)")

@@ -1,15 +1,7 @@
 # SPDX-License-Identifier: Apache-2.0
-"""A plain reader of images that follows docs/FORMAT.md alone; its results are compared with those of the library.
-
-Run `mutants FILE` in bench/rust first, then this script with the same file. It prints for each kind of image how many
-had which result, and ends with status 1 if a result differs.
-"""
-import collections
+"""A plain reader of images that follows docs/FORMAT.md alone; tests compare its results with those of the library."""
 import struct
-import sys
 
-WORDS = ["accepted", "truncated", "family", "version", "lgk", "width", "stage", "preamble", "lgarr", "count", "coupon",
-         "register", "argument", "memory"]
 PREAMBLES = [2, 3, 10]
 LIST, SET = 0, 1
 EMPTY, COMPACT, OUT_OF_ORDER = 4, 8, 16
@@ -141,31 +133,3 @@ def answer(image):
         return "accepted", read(image)
     except Refused as refusal:
         return str(refusal), b""
-
-
-def records(path):
-    """The number of the kind, the image, the word and the value of each record."""
-    with open(path, "rb") as source:
-        while number := source.read(1):
-            image = source.read(*struct.unpack("<I", source.read(4)))
-            word = WORDS[source.read(1)[0]]
-            yield number[0], image, word, source.read(*struct.unpack("<I", source.read(4)))
-
-
-def main():
-    counts, differing = collections.defaultdict(collections.Counter), 0
-    for number, image, word, value in records(sys.argv[1]):
-        counts[number][word] += 1
-        if answer(image) != (word, value):
-            differing += 1
-            print(f"{image.hex()}: {word} {value.hex()}, read plainly {answer(image)}")
-    for number, words in counts.items():
-        kind = f"{['list', 'set', 'registers'][number // 3]} of {4 + number % 3 * 2} bits"
-        answers = ", ".join(f"{count} {word}" for word, count in words.most_common())
-        print(f"{kind}: {sum(words.values())} images, {answers}")
-    print(f"{differing} results differ")
-    sys.exit(1 if differing or not counts else 0)
-
-
-if __name__ == "__main__":
-    main()

@@ -158,11 +158,12 @@ enum {
     HLL_COUPON = 10,        /* a coupon has the value 0 where a coupon is needed, or comes twice */
     HLL_REGISTER = 11,      /* a register above 63, or nibbles and exceptions that don't agree */
     /* The call can't be done. */
-    HLL_ARGUMENT = 12,      /* an argument is out of its range */
-    HLL_MEMORY = 13,        /* malloc returned NULL */
-    HLL_BUFFER = 14,        /* the buffer is too small; *size is the size needed */
-    HLL_COARSER = 15,       /* the sketch to be merged has fewer registers; *lg_k is its lg_k */
-    HLL_OTHER_LG_K = 16     /* the sketches have different lg_k, and no lg_max_k was given */
+    HLL_ARGUMENT = 12,   /* an argument is out of its range */
+    HLL_MEMORY = 13,     /* malloc returned NULL */
+    HLL_BUFFER = 14,     /* the buffer is too small; *size is the size needed */
+    HLL_COARSER = 15,    /* the sketch to be merged has fewer registers; *lg_k is its lg_k */
+    HLL_OTHER_LG_K = 16, /* the sketches have different lg_k, and no lg_max_k was given */
+    HLL_TRAILING = 17    /* bytes follow the image: no call returns it, but bindings reject files and values for it */
 };
 
 /* The stage of a sketch. */
@@ -200,18 +201,18 @@ typedef struct hll_head {
 
 /* What an image says about its sketch. Members that its stage doesn't have are 0. A later version may add members. */
 typedef struct hll_info {
-    uint64_t coupons;       /* of a list or a set: the number of coupons */
-    uint64_t zeros;         /* of registers: the number of registers that are 0 */
-    uint64_t units_high;    /* of registers: the sum of 2^(63 - register), 128 bits: its upper half */
-    uint64_t units_low;     /* and its lower half */
-    uint64_t hip;           /* of registers: the three estimator fields, as bits of binary64 */
+    uint64_t coupons;    /* of a list or a set: the number of coupons */
+    uint64_t zeros;      /* of registers: the number of registers that are 0 */
+    uint64_t units_high; /* of registers: the sum of 2^(63 - register), 128 bits: its upper half */
+    uint64_t units_low;  /* and its lower half */
+    uint64_t hip;        /* of registers: the three estimator fields, as bits of binary64 */
     uint64_t kxq0;
     uint64_t kxq1;
-    uint8_t lg_k;           /* 4 to 21 */
-    uint8_t width;          /* 4, 6 or 8 */
-    uint8_t stage;          /* HLL_LIST, HLL_SET or HLL_REGISTERS */
-    uint8_t is_empty;       /* 1 if there is no coupon and no register above 0, else 0 */
-    uint8_t out_of_order;   /* of registers: 1 if the image has the out-of-order flag, else 0 */
+    uint8_t lg_k;         /* 4 to 21 */
+    uint8_t width;        /* 4, 6 or 8 */
+    uint8_t stage;        /* HLL_LIST, HLL_SET or HLL_REGISTERS */
+    uint8_t is_empty;     /* 1 if there is no coupon and no register above 0, else 0 */
+    uint8_t out_of_order; /* of registers: 1 if the image has the out-of-order flag, else 0 */
 } hll_info;
 
 /* What a state says. A later version may add members. */
@@ -233,8 +234,8 @@ typedef struct hll_histogram {
  * bounds in about 68, 95 and 99.7 of 100 cases, and more often if the sketch is a list or a set. */
 typedef struct hll_estimation {
     double estimate;
-    double relative_standard_error;     /* the standard deviation of the estimate, divided by the number of values */
-    double lower[3];                    /* lower[d - 1] and upper[d - 1] are the bounds at d deviations */
+    double relative_standard_error; /* the standard deviation of the estimate, divided by the number of values */
+    double lower[3];                /* lower[d - 1] and upper[d - 1] are the bounds at d deviations */
     double upper[3];
 } hll_estimation;
 
@@ -277,6 +278,12 @@ hll_status hll_image_check(const uint8_t *image, size_t len);
  * Returns HLL_OK, 1 to 11, or HLL_MEMORY. Allocates as hll_image_check does. */
 hll_status hll_image_size(const uint8_t *bytes, size_t len, size_t *size);
 
+/* Counts the bytes after the image that the bytes begin with: *more is 0 if there are none, or if the head has a fault. The calls of
+ * this library don't read them. Where a file or a value has to be one image, they may be a second one, which would be lost. The empty
+ * buckets of an updatable empty list belong to it. Only the head is read: hll_image_check says whether the bytes begin with an image.
+ * Returns HLL_OK. Allocates nothing. */
+hll_status hll_image_trailing(const uint8_t *bytes, size_t len, size_t *more);
+
 /* Counts the registers with each value, at the lg_k of the image. The coupons of a list or a set are folded to that lg_k, so
  * the call takes the time of 2^lg_k registers however small the image is.
  * Returns HLL_OK, 1 to 11, or HLL_MEMORY. Allocates 2^lg_k bytes, a map for the exceptions of 4-bit registers, and for
@@ -299,15 +306,15 @@ hll_status hll_image_new(unsigned lg_k, unsigned width, uint8_t *out, size_t roo
  * registers of 6 or 8 bits get one value, or have all of at most 16 values already. Registers of 4 bits, as this library writes
  * them, then need at most a map for their exceptions, if there are at most 128, unless the value becomes an exception or
  * raises the last register at the minimum. */
-hll_status hll_image_add(const uint8_t *image, size_t len, const uint8_t *values, size_t values_len,
-                         const size_t *ends, size_t n, uint8_t *out, size_t room, size_t *size);
+hll_status hll_image_add(const uint8_t *image, size_t len, const uint8_t *values, size_t values_len, const size_t *ends,
+                         size_t n, uint8_t *out, size_t room, size_t *size);
 
 /* Writes the image with one more coupon: a slot below 2^26, and a value from 1 to 63.
  * Returns HLL_OK, 1 to 11, HLL_ARGUMENT, HLL_MEMORY or HLL_BUFFER. Allocates the memory of reading, and the image; nothing for
  * registers of 6 or 8 bits. Registers of 4 bits, as this library writes them, need at most a map for their exceptions, if
  * there are at most 128, unless the coupon becomes an exception or raises the last register at the minimum. */
-hll_status hll_image_add_coupon(const uint8_t *image, size_t len, uint32_t slot, unsigned value, uint8_t *out,
-                                size_t room, size_t *size);
+hll_status hll_image_add_coupon(const uint8_t *image, size_t len, uint32_t slot, unsigned value, uint8_t *out, size_t room,
+                                size_t *size);
 
 /* ---- unions ---- */
 
@@ -316,9 +323,8 @@ hll_status hll_image_add_coupon(const uint8_t *image, size_t len, uint32_t slot,
  * HLL_ARGUMENT, and so do the unions below.
  * Returns HLL_OK, 1 to 11 (*failed is 0 for the left image, 1 for the right), HLL_ARGUMENT, HLL_MEMORY or HLL_BUFFER.
  * Allocates the memory of reading one image at a time, at most 1.5 times 2^lg_max_k bytes or 1 KB, and the image. */
-hll_status hll_image_merge(unsigned lg_max_k, unsigned width, const uint8_t *left, size_t left_len,
-                           const uint8_t *right, size_t right_len, uint8_t *out, size_t room, size_t *size,
-                           size_t *failed);
+hll_status hll_image_merge(unsigned lg_max_k, unsigned width, const uint8_t *left, size_t left_len, const uint8_t *right,
+                           size_t right_len, uint8_t *out, size_t room, size_t *size, size_t *failed);
 
 /* Writes the union of n images, delimited by `ends`, at this width. Its lg_k follows the rule of hll_image_merge. The union
  * of no images is the empty sketch of lg_max_k.
@@ -329,13 +335,13 @@ hll_status hll_image_merge(unsigned lg_max_k, unsigned width, const uint8_t *lef
  * merged twice.
  * Returns HLL_OK, 1 to 11 (*failed is the number of the image), HLL_ARGUMENT, HLL_MEMORY or HLL_BUFFER.
  * Allocates the memory of reading one image at a time, at most 1.5 times 2^lg_max_k bytes or 1 KB, and the image. */
-hll_status hll_images_union(unsigned lg_max_k, unsigned width, const uint8_t *images, size_t images_len,
-                            const size_t *ends, size_t n, uint8_t *out, size_t room, size_t *size, size_t *failed);
+hll_status hll_images_union(unsigned lg_max_k, unsigned width, const uint8_t *images, size_t images_len, const size_t *ends,
+                            size_t n, uint8_t *out, size_t room, size_t *size, size_t *failed);
 
 /* Writes the union of n images that need not be contiguous, as hll_images_union does.
  * Returns and allocates what hll_images_union does. */
-hll_status hll_images_unionv(unsigned lg_max_k, unsigned width, const hll_bytes *parts, size_t n, uint8_t *out,
-                             size_t room, size_t *size, size_t *failed);
+hll_status hll_images_unionv(unsigned lg_max_k, unsigned width, const hll_bytes *parts, size_t n, uint8_t *out, size_t room,
+                             size_t *size, size_t *failed);
 
 /* ---- one image from another ---- */
 
@@ -355,13 +361,11 @@ hll_status hll_image_convert(const uint8_t *image, size_t len, unsigned width, u
 /* Writes the image with the estimator fields that follow from its registers, and the out-of-order flag, whatever they were
  * before. Lists and sets have no such fields, and are written as this library writes them.
  * Returns HLL_OK, 1 to 11, HLL_MEMORY or HLL_BUFFER. Allocates the memory of reading, and the image. */
-hll_status hll_image_set_estimator_fields(const uint8_t *image, size_t len, uint8_t *out, size_t room,
-                                          size_t *size);
+hll_status hll_image_set_estimator_fields(const uint8_t *image, size_t len, uint8_t *out, size_t room, size_t *size);
 
 /* Writes the image with the estimator fields 0 and the out-of-order flag set, as the program hll_merge writes it.
  * Returns and allocates what hll_image_set_estimator_fields does. */
-hll_status hll_image_clear_estimator_fields(const uint8_t *image, size_t len, uint8_t *out, size_t room,
-                                            size_t *size);
+hll_status hll_image_clear_estimator_fields(const uint8_t *image, size_t len, uint8_t *out, size_t room, size_t *size);
 
 /* ---- comparing ---- */
 
@@ -369,8 +373,8 @@ hll_status hll_image_clear_estimator_fields(const uint8_t *image, size_t len, ui
  * Returns HLL_OK, 1 to 11 (*failed is 0 for the left image, 1 for the right), or HLL_MEMORY. Allocates at most what
  * hll_image_histogram does, for each image. Registers of the same lg_k and width are compared in the images themselves: with
  * 6 and 8 bits nothing is allocated, with 4 bits a map for the exceptions of each image. */
-hll_status hll_images_agree(const uint8_t *left, size_t left_len, const uint8_t *right, size_t right_len,
-                            uint8_t *same, size_t *failed);
+hll_status hll_images_agree(const uint8_t *left, size_t left_len, const uint8_t *right, size_t right_len, uint8_t *same,
+                            size_t *failed);
 
 /* ---- caller-owned registers ----
  *
@@ -389,8 +393,8 @@ hll_status hll_images_agree(const uint8_t *left, size_t left_len, const uint8_t 
 
 /* Adds n values to the registers, delimited by `ends`, as hll_image_add does.
  * Returns HLL_OK or HLL_ARGUMENT. Allocates nothing. */
-hll_status hll_registers_add(uint8_t *registers, size_t count, const uint8_t *values, size_t values_len,
-                             const size_t *ends, size_t n);
+hll_status hll_registers_add(uint8_t *registers, size_t count, const uint8_t *values, size_t values_len, const size_t *ends,
+                             size_t n);
 
 /* Adds values of one length to the registers, without ends: values_len / value_len values of value_len bytes each,
  * concatenated.
@@ -522,8 +526,7 @@ hll_status hll_state_join(unsigned lg_max_k, void *state, size_t room, size_t *s
 /* Merges the sketch of another state into a state, as hll_state_join does with an image. The bytes of the other state may
  * change if it has coupons, but not its sketch. The two states must not overlap.
  * Returns HLL_OK, HLL_REGISTER, HLL_ARGUMENT, HLL_BUFFER or HLL_OTHER_LG_K. Allocates nothing. */
-hll_status hll_state_join_state(unsigned lg_max_k, void *state, size_t room, size_t *size, void *other,
-                                size_t other_room);
+hll_status hll_state_join_state(unsigned lg_max_k, void *state, size_t room, size_t *size, void *other, size_t other_room);
 
 /* Writes the image of a state at this width. The bytes of the state may change if it has coupons, because these are sorted, but
  * not its sketch. If the call returns HLL_OK, calls that read the state change no byte of it until something is added or merged.
@@ -655,8 +658,7 @@ hll_status hll_coupons(const uint8_t *values, size_t values_len, const size_t *e
  * concatenated.
  * Returns HLL_OK, HLL_ARGUMENT if value_len is 0 or does not divide values_len, or HLL_BUFFER if room is less than n.
  * Allocates nothing. */
-hll_status hll_coupons_fixed(const uint8_t *values, size_t values_len, size_t value_len, uint32_t *coupons,
-                             size_t room);
+hll_status hll_coupons_fixed(const uint8_t *values, size_t values_len, size_t value_len, uint32_t *coupons, size_t room);
 
 /* Writes the raw coupons of the values between offsets, as Apache Arrow has them: "offsets, offsets_len" above.
  * Returns HLL_OK, HLL_ARGUMENT, or HLL_BUFFER if room is less than the number of values. Allocates nothing. */
@@ -695,11 +697,10 @@ hll_status hll_histogram_estimate(const hll_histogram *histogram, hll_estimation
 /* Returns a status as one word: "ok", "truncated", "family" and so on, or "unknown" for any other number. */
 static inline const char *hll_reason(hll_status status)
 {
-    static const char *const words[] = {"ok",       "truncated", "family",   "version",  "lgk",
-                                        "width",    "stage",     "preamble", "lgarr",    "count",
-                                        "coupon",   "register",  "argument", "memory",   "buffer",
-                                        "coarser",  "other_lg_k"};
-    return status <= HLL_OTHER_LG_K ? words[status] : "unknown";
+    static const char *const words[] = {"ok",       "truncated", "family", "version", "lgk",        "width",
+                                        "stage",    "preamble",  "lgarr",  "count",   "coupon",     "register",
+                                        "argument", "memory",    "buffer", "coarser", "other_lg_k", "trailing"};
+    return status <= HLL_TRAILING ? words[status] : "unknown";
 }
 
 /* Returns a status as a sentence, or "The status is unknown." for any other number. */
@@ -723,8 +724,9 @@ static inline const char *hll_message(hll_status status)
         "The buffer is smaller than what is to be written.",
         "What is to be merged has fewer registers.",
         "The sketches have different lg_k, and no lg_max_k was given.",
+        "Bytes follow the image.",
     };
-    return status <= HLL_OTHER_LG_K ? sentences[status] : "The status is unknown.";
+    return status <= HLL_TRAILING ? sentences[status] : "The status is unknown.";
 }
 
 /* Returns whether an untrusted image is quick to read, or to reject: whether it has at most `most` bytes, and its lg_k is at most

@@ -86,7 +86,12 @@ class hll_sketch : public detail::values<hll::sketch> {
     explicit hll_sketch(hll::sketch given) : values(std::move(given)) {}
     const hll::sketch &get() const noexcept { return counter_; }
 
+    /// Reads the image with which the bytes begin, as datasketches-cpp does; deserialize_exact throws if bytes follow it.
     static hll_sketch deserialize(const void *bytes, size_t length)
+    {
+        return hll_sketch(hll::sketch::deserialize_first(bytes, length));
+    }
+    static hll_sketch deserialize_exact(const void *bytes, size_t length)
     {
         return hll_sketch(hll::sketch::deserialize(bytes, length));
     }

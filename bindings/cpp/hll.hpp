@@ -75,18 +75,19 @@ constexpr unsigned bits_of(width given)
     return static_cast<unsigned>(given);
 }
 
-/// The bytes are not the image of a sketch.
+/// The bytes are not the image of a sketch, or more than one image.
 class image_error : public std::runtime_error {
   public:
-    image_error(hll_status status, size_t size) : image_error(status, size, 0, "") {}
+    /// `more` of the `size` bytes follow an image, if the status is HLL_TRAILING.
+    image_error(hll_status status, size_t size, size_t more = 0) : image_error(status, size, more, 0, "") {}
 
     /// One of several images; `index` is its number, from 0.
-    image_error(hll_status status, size_t size, size_t index)
-        : image_error(status, size, index, "image " + std::to_string(index) + ": ")
+    static image_error at(size_t index, hll_status status, size_t size, size_t more = 0)
     {
+        return image_error(status, size, more, index, "image " + std::to_string(index) + ": ");
     }
 
-    /// Returns the first check that the bytes fail, HLL_TRUNCATED to HLL_REGISTER.
+    /// Returns the first check that the bytes fail, HLL_TRUNCATED to HLL_REGISTER, or HLL_TRAILING.
     hll_status status() const noexcept { return status_; }
 
     /// Returns the status as one word: "truncated", "family" and so on.
@@ -96,9 +97,11 @@ class image_error : public std::runtime_error {
     size_t index() const noexcept { return index_; }
 
   private:
-    image_error(hll_status status, size_t size, size_t index, const std::string &which)
-        : std::runtime_error(which + "these " + std::to_string(size) + " bytes are not the image of a sketch: " +
-                             hll_message(status) + " (" + hll_reason(status) + ")"),
+    image_error(hll_status status, size_t size, size_t more, size_t index, const std::string &which)
+        : std::runtime_error(
+              which + "these " + std::to_string(size) + " bytes are not the image of a sketch: " +
+              (more == 0 ? hll_message(status) : "They begin with one of " + std::to_string(size - more) + " bytes.") +
+              " (" + hll_reason(status) + ")"),
           status_(status), index_(index)
     {
     }
@@ -204,6 +207,30 @@ inline hll_head head_of(const uint8_t *image, size_t size)
     hll_head head = {};
     check(hll_image_head(image, size, &head, sizeof head));
     return head;
+}
+
+/// Returns how many bytes follow an image.
+inline size_t trailing(const hll_bytes &image)
+{
+    size_t more = 0;
+    check(hll_image_trailing(image.bytes, image.len, &more));
+    return more;
+}
+
+/// Throws image_error for the first of n images that is none, or that is followed by bytes, if bytes follow one.
+inline void check_whole(const hll_bytes *images, size_t n)
+{
+    if (std::all_of(images, images + n, [](const hll_bytes &image) { return trailing(image) == 0; }))
+        return;
+    for (size_t i = 0; i < n; i++) {
+        const size_t more = trailing(images[i]);
+        hll_status status = hll_image_check(images[i].bytes, images[i].len);
+        if (status == HLL_OK && more != 0)
+            status = HLL_TRAILING;
+        if (is_refusal(status) || status == HLL_TRAILING)
+            throw n == 1 ? image_error(status, images[i].len, more) : image_error::at(i, status, images[i].len, more);
+        check(status);
+    }
 }
 
 /// Reads the bytes of the image that comes next in a stream: all that its head announces, and no more. Throws image_error if
@@ -353,8 +380,7 @@ class state {
 };
 
 /// Returns the number whose eight bytes are hashed for an integer: the integer, widened to 64 bits.
-template <class Integer>
-typename std::enable_if<std::is_integral<Integer>::value, uint64_t>::type hashed_as(Integer value)
+template <class Integer> typename std::enable_if<std::is_integral<Integer>::value, uint64_t>::type hashed_as(Integer value)
 {
     static_assert(sizeof value <= 8, "integers have at most 64 bits");
     return static_cast<uint64_t>(value);
@@ -429,8 +455,7 @@ template <class Text> uint32_t coupon_of(const Text &text)
 
 /// Writes the coupons of n strings or other containers of bytes, at most `batch`.
 template <class Text>
-typename std::enable_if<!std::is_arithmetic<Text>::value>::type hash_batch(const Text *values, size_t n,
-                                                                           uint32_t *coupons)
+typename std::enable_if<!std::is_arithmetic<Text>::value>::type hash_batch(const Text *values, size_t n, uint32_t *coupons)
 {
     for (size_t i = 0; i < n; i++)
         coupons[i] = coupon_of(values[i]);
@@ -454,11 +479,16 @@ class counter {
         update(bytes, sizeof bytes);
     }
 
-    /// Adds a string: its bytes, which should be UTF-8. The empty string is a value like any other.
+    /// Adds a string: its bytes, which should be UTF-8. The empty string is a value like any other, and a `char` is a string
+    /// of one character.
     void update(const std::string &value) { update(value.data(), value.size()); }
+    void update(char value) { update(&value, 1); }
     void update(const char *value) { update(value, length_of(value)); }
 #if __cplusplus >= 201703L
-    void update(std::string_view value) { update(value.data(), value.size()); }
+    void update(std::string_view value)
+    {
+        update(value.data(), value.size());
+    }
 #endif
 
     /// Adds `size` bytes as one value. A null pointer is allowed if the size is 0.
@@ -513,8 +543,7 @@ class counter {
     void update_coupons(const uint32_t *coupons, size_t n)
     {
         checked_bytes(coupons, n);
-        const uint32_t *found =
-            std::find_if(coupons, coupons + n, [](uint32_t one) { return HLL_COUPON_VALUE(one) == 0; });
+        const uint32_t *found = std::find_if(coupons, coupons + n, [](uint32_t one) { return HLL_COUPON_VALUE(one) == 0; });
         if (found != coupons + n)
             throw std::invalid_argument("coupon " + std::to_string(found - coupons) + " is " + std::to_string(*found) +
                                         ", whose value is 0; the value of a coupon is 1 to 63");
@@ -522,21 +551,42 @@ class counter {
     }
 
     /// Returns the estimated number of distinct values.
-    double estimate() const { return estimation().estimate; }
+    double estimate() const
+    {
+        return estimation().estimate;
+    }
 
     /// Return the bounds at 1, 2 or 3 standard deviations. The true number is between them in about 68, 95 and 99.7 of
     /// 100 cases.
-    double lower_bound(unsigned deviations) const { return estimation().lower[index_of(deviations)]; }
-    double upper_bound(unsigned deviations) const { return estimation().upper[index_of(deviations)]; }
+    double lower_bound(unsigned deviations) const
+    {
+        return estimation().lower[index_of(deviations)];
+    }
+    double upper_bound(unsigned deviations) const
+    {
+        return estimation().upper[index_of(deviations)];
+    }
 
     /// Returns the estimate with all its bounds, in less time than two of the calls above.
-    hll_estimation estimation() const { return state_.estimation(); }
+    hll_estimation estimation() const
+    {
+        return state_.estimation();
+    }
 
-    unsigned lg_k() const noexcept { return state_.lg_k(); }
-    bool is_empty() const noexcept { return state_.is_empty(); }
+    unsigned lg_k() const noexcept
+    {
+        return state_.lg_k();
+    }
+    bool is_empty() const noexcept
+    {
+        return state_.is_empty();
+    }
 
     /// Removes all values, and frees the memory.
-    void reset() noexcept { state_.clear(); }
+    void reset() noexcept
+    {
+        state_.clear();
+    }
 
     /// Returns the bytes that are allocated, in addition to the object itself.
     size_t memory_size() const noexcept
@@ -583,8 +633,7 @@ class counter {
     static size_t index_of(unsigned deviations)
     {
         if (deviations < 1 || deviations > 3)
-            throw std::invalid_argument("bounds are at 1, 2 or 3 standard deviations, not " +
-                                        std::to_string(deviations));
+            throw std::invalid_argument("bounds are at 1, 2 or 3 standard deviations, not " + std::to_string(deviations));
         return deviations - 1;
     }
 };
@@ -603,9 +652,17 @@ class sketch : public detail::counter {
     /// Copies a sketch, with another width.
     sketch(const sketch &other, hll::width width) : counter(other.state_), width_(width) {}
 
-    /// Returns the sketch of an image, which is checked whole. Bytes after the image are not read. If the bytes are
+    /// Returns the sketch of an image, which is checked whole. Throws image_error if bytes follow it, too. If the bytes are
     /// untrusted, call is_small first.
     static sketch deserialize(const void *image, size_t size)
+    {
+        const hll_bytes whole = {detail::checked_bytes(image, size), size};
+        detail::check_whole(&whole, 1);
+        return deserialize_first(image, size);
+    }
+
+    /// Returns the sketch of the image with which the bytes begin. Those after it are not read.
+    static sketch deserialize_first(const void *image, size_t size)
     {
         const uint8_t *bytes = detail::checked_bytes(image, size);
         const hll_head head = detail::head_of(bytes, size);
@@ -722,11 +779,13 @@ class union_ : public detail::counter {
         update(other);
     }
 
-    /// Merges an image without making a sketch of it. Bytes after the image are not read. If the bytes are untrusted,
+    /// Merges an image without making a sketch of it. Throws image_error if bytes follow it, too. If the bytes are untrusted,
     /// call is_small first.
     void update_image(const void *image, size_t size)
     {
         const uint8_t *bytes = detail::checked_bytes(image, size);
+        const hll_bytes whole = {bytes, size};
+        detail::check_whole(&whole, 1);
         joined(state_.join(bytes, size), detail::head_of(bytes, size).lg_k, size);
     }
     void update_image(const std::vector<uint8_t> &image) { update_image(image.data(), image.size()); }
@@ -738,14 +797,14 @@ class union_ : public detail::counter {
         detail::checked_bytes(images, n);
         for (size_t i = 0; i < n; i++)
             detail::checked_bytes(images[i].bytes, images[i].len);
+        detail::check_whole(images, n);
         if (lg_max_k_ == 0)
             return update_in_turn(images, n);
         std::vector<uint8_t> merged(HLL_IMAGE_ROOM(lg_max_k_, 8));
         size_t size = 0, failed = 0;
-        const hll_status status =
-            hll_images_unionv(lg_max_k_, 8, images, n, merged.data(), merged.size(), &size, &failed);
+        const hll_status status = hll_images_unionv(lg_max_k_, 8, images, n, merged.data(), merged.size(), &size, &failed);
         if (detail::is_refusal(status))
-            throw image_error(status, images[failed].len, failed);
+            throw image_error::at(failed, status, images[failed].len);
         detail::check(status);
         update_image(merged.data(), size);
     }
@@ -777,7 +836,7 @@ class union_ : public detail::counter {
         for (size_t i = 0; i < n; i++) {
             const hll_status status = copy.state_.join(images[i].bytes, images[i].len);
             if (detail::is_refusal(status))
-                throw image_error(status, images[i].len, i);
+                throw image_error::at(i, status, images[i].len);
             copy.joined(status, detail::head_of(images[i].bytes, images[i].len).lg_k);
         }
         swap(copy);

@@ -14,6 +14,7 @@
 //	found, err := all.Estimate()
 //
 // An error leaves the sketch as it was. One goroutine at a time uses a sketch, also to read it; different sketches share nothing.
+// encoding/gob and encoding/json write a sketch as its image.
 //
 // The memory of a sketch is C's. The garbage collector frees it with the sketch, but doesn't count it: a program that makes many
 // large sketches should call Close on each one that it doesn't need any more.
@@ -25,6 +26,7 @@ import "C"
 
 import (
 	"encoding"
+	"encoding/base64"
 	"encoding/binary"
 	"errors"
 	"fmt"
@@ -46,18 +48,31 @@ const (
 // ErrOtherLgK is returned where sketches of different lg_k would be merged and no bound was given.
 var ErrOtherLgK = errors.New("the sketches have different lg_k: to merge them at the smaller lg_k, give a bound")
 
+// A closed sketch and the zero Sketch return these errors from every call that can return one, except UnmarshalBinary and
+// UnmarshalText, which replace them.
+var (
+	ErrClosed = errors.New("hll: the sketch is closed: call Close after its last use")
+	ErrZero   = errors.New("hll: the zero Sketch holds nothing: make one with hll.New, hll.NewUnion or hll.Read")
+)
+
 // ImageError says why bytes are not the image of a sketch.
 type ImageError struct {
 	status C.hll_status
 	// Size is the number of bytes.
 	Size int
+	more int // that follow an image
 }
 
-// Reason returns the first check that the bytes fail as one word: "truncated", "family" and so on.
+// Reason returns the first check that the bytes fail as one word: "truncated", "family" and so on, or "trailing" if they begin with
+// an image and don't end with it.
 func (e *ImageError) Reason() string { return C.GoString(C.hll_reason(e.status)) }
 
 func (e *ImageError) Error() string {
-	return fmt.Sprintf("these %d bytes are not the image of a sketch: %s (%s)", e.Size, C.GoString(C.hll_message(e.status)), e.Reason())
+	why := C.GoString(C.hll_message(e.status))
+	if e.more > 0 {
+		why = fmt.Sprintf("They begin with one of %d bytes.", e.Size-e.more)
+	}
+	return fmt.Sprintf("these %d bytes are not the image of a sketch: %s (%s)", e.Size, why, e.Reason())
 }
 
 // errorOf returns what a status says, and nil for HLL_OK.
@@ -66,7 +81,7 @@ func errorOf(status C.hll_status, size int) error {
 	case status == C.HLL_OK:
 		return nil
 	case C.HLL_TRUNCATED <= status && status <= C.HLL_REGISTER:
-		return &ImageError{status, size}
+		return &ImageError{status: status, Size: size}
 	case status == C.HLL_OTHER_LG_K:
 		return ErrOtherLgK
 	}
@@ -89,7 +104,10 @@ func start(bytes []byte) *C.uint8_t {
 const batch = 256
 
 // counter is a counter of hll.h. It has an allocation of its own, so its memory is freed once, whoever copies a Sketch.
-type counter struct{ c C.hll_counter }
+type counter struct {
+	c        C.hll_counter
+	isClosed bool
+}
 
 // newCounter returns an empty counter, whose bound is its lg_k.
 func newCounter(lgK int) (*counter, error) {
@@ -101,7 +119,7 @@ func newCounter(lgK int) (*counter, error) {
 	return made, nil
 }
 
-// Sketch counts distinct values. Make it with New, NewUnion or Read.
+// Sketch counts distinct values. Make it with New, NewUnion or Read, as the zero Sketch holds nothing: its calls return ErrZero.
 type Sketch struct {
 	counter *counter
 	values  []byte // that wait, concatenated
@@ -128,12 +146,10 @@ func NewUnion(lgMaxK int) (*Sketch, error) {
 	return &Sketch{counter: made}, err
 }
 
-// Read returns the sketch of an image, which is checked whole. Bytes after the image are ignored. If the image is untrusted, call
-// IsSmall first.
+// Read returns the sketch of an image, which is checked whole. It returns an *ImageError if the bytes are no image, or more than one. If
+// they are untrusted, call IsSmall first.
 func Read(image []byte) (*Sketch, error) {
-	var head C.hll_head
-	C.hll_image_head(start(image), C.size_t(len(image)), &head, C.sizeof_hll_head)
-	lgK := int(head.lg_k)
+	lgK := int(headOf(image).lg_k)
 	if lgK == 0 {
 		lgK = 4 // so that the merge returns the reason
 	}
@@ -147,16 +163,47 @@ func Read(image []byte) (*Sketch, error) {
 	return s, nil
 }
 
+// headOf returns what the header of an image says.
+func headOf(image []byte) C.hll_head {
+	var head C.hll_head
+	C.hll_image_head(start(image), C.size_t(len(image)), &head, C.sizeof_hll_head)
+	return head
+}
+
+// checkEnd returns an error for an image that other bytes follow. What is no image is left to the call that reads it.
+func checkEnd(image []byte) error {
+	var more C.size_t
+	C.hll_image_trailing(start(image), C.size_t(len(image)), &more)
+	if more == 0 || C.hll_image_check(start(image), C.size_t(len(image))) != C.HLL_OK {
+		return nil
+	}
+	return &ImageError{C.HLL_TRAILING, len(image), int(more)}
+}
+
 // IsSmall returns whether an untrusted image is quick to read, or to reject: it has at most 8,192 bytes, and an lg_k of at
 // most 12 or a fault in its header.
 func IsSmall(image []byte) bool {
 	return C.hll_is_small(start(image), C.size_t(len(image)), 12, 8192) != 0
 }
 
-// Close frees the memory of the sketch, which can't be used after that. It may be called again, or not at all.
+// Close frees the memory of the sketch. After that its calls return ErrClosed. It may be called again, or not at all.
 func (s *Sketch) Close() {
-	C.hll_counter_free(&s.counter.c)
+	if s.counter != nil {
+		C.hll_counter_free(&s.counter.c)
+		s.counter.isClosed = true
+	}
 	s.values, s.ends = nil, nil
+}
+
+// usable returns an error if the sketch is closed or the zero Sketch.
+func (s *Sketch) usable() error {
+	switch {
+	case s.counter == nil:
+		return ErrZero
+	case s.counter.isClosed:
+		return ErrClosed
+	}
+	return nil
 }
 
 // Add adds a value by its bytes.
@@ -188,6 +235,9 @@ func (s *Sketch) AddFloat(value float64) error {
 
 // add lets a value wait, and adds those that wait before it if no other may wait.
 func add[Bytes []byte | string](s *Sketch, value Bytes) error {
+	if err := s.usable(); err != nil {
+		return err
+	}
 	if len(s.ends) == batch {
 		if err := s.flush(); err != nil {
 			return err
@@ -212,17 +262,23 @@ func (s *Sketch) flush() error {
 
 // settle adds the values that wait, and frees their memory.
 func (s *Sketch) settle() error {
-	err := s.flush()
+	err := s.usable()
+	if err == nil {
+		err = s.flush()
+	}
 	if err == nil {
 		s.values, s.ends = nil, nil
 	}
 	return err
 }
 
-// MergeImage merges an image without making a sketch of it. Bytes after the image are ignored. It returns an *ImageError if the bytes
-// are no image, and ErrOtherLgK if the lg_k differ and the sketch has no bound.
+// MergeImage merges an image without making a sketch of it. It returns an *ImageError if the bytes are no image, or more than one, and
+// ErrOtherLgK if the lg_k differ and the sketch has no bound.
 func (s *Sketch) MergeImage(image []byte) error {
 	if err := s.settle(); err != nil {
+		return err
+	}
+	if err := checkEnd(image); err != nil {
 		return err
 	}
 	return errorOf(C.hll_counter_join(&s.counter.c, start(image), C.size_t(len(image))), len(image))
@@ -230,9 +286,6 @@ func (s *Sketch) MergeImage(image []byte) error {
 
 // Merge merges another sketch, which keeps its values.
 func (s *Sketch) Merge(other *Sketch) error {
-	if s == other {
-		return nil
-	}
 	if err := s.settle(); err != nil {
 		return err
 	}
@@ -283,21 +336,27 @@ func (s *Sketch) Estimate() (Estimation, error) {
 	return made, nil
 }
 
-// summary returns what the counter says.
+// summary returns what the counter says, and zeros if the sketch is closed or the zero Sketch.
 func (s *Sketch) summary() C.hll_state_summary {
 	var said C.hll_state_summary
-	C.hll_counter_info(&s.counter.c, &said, C.sizeof_hll_state_summary)
+	if s.usable() == nil {
+		C.hll_counter_info(&s.counter.c, &said, C.sizeof_hll_state_summary)
+	}
 	return said
 }
 
-// LgK returns the lg_k of the sketch.
+// LgK returns the lg_k of the sketch, and 0 if it is closed or the zero Sketch.
 func (s *Sketch) LgK() int { return int(s.summary().lg_k) }
 
-// IsEmpty returns whether no value was added.
+// IsEmpty returns whether no value was added, and false if the sketch is closed or the zero Sketch.
 func (s *Sketch) IsEmpty() bool { return len(s.ends) == 0 && s.summary().is_empty == 1 }
 
-// Clone returns a copy. It panics if an allocation fails.
+// Clone returns a copy. The copy of a closed sketch is closed, and the copy of the zero Sketch is a zero Sketch. It panics if an
+// allocation fails.
 func (s *Sketch) Clone() *Sketch {
+	if s.usable() != nil {
+		return &Sketch{counter: s.counter}
+	}
 	made, err := newCounter(int(s.counter.c.lg_max_k))
 	if err == nil {
 		err = errorOf(C.hll_counter_copy(&made.c, &s.counter.c), 0)
@@ -313,12 +372,15 @@ func (s *Sketch) Clone() *Sketch {
 }
 
 var (
-	_ encoding.BinaryMarshaler   = (*Sketch)(nil)
+	_ encoding.BinaryMarshaler   = Sketch{}
 	_ encoding.BinaryUnmarshaler = (*Sketch)(nil)
+	_ encoding.TextMarshaler     = Sketch{}
+	_ encoding.TextUnmarshaler   = (*Sketch)(nil)
 )
 
-// MarshalBinary returns the 8-bit image, for encoding/gob and the like.
-func (s *Sketch) MarshalBinary() ([]byte, error) { return s.Image(Width8) }
+// MarshalBinary returns the 8-bit image, for encoding/gob and the like. Its receiver is no pointer, so a struct or a map with a Sketch
+// in it can be written, too.
+func (s Sketch) MarshalBinary() ([]byte, error) { return s.Image(Width8) }
 
 // UnmarshalBinary replaces the sketch by the sketch of an image.
 func (s *Sketch) UnmarshalBinary(image []byte) error {
@@ -327,4 +389,22 @@ func (s *Sketch) UnmarshalBinary(image []byte) error {
 		*s = *read
 	}
 	return err
+}
+
+// MarshalText returns the 8-bit image in base64 with padding, for encoding/json and the like.
+func (s Sketch) MarshalText() ([]byte, error) {
+	image, err := s.Image(Width8)
+	if err != nil {
+		return nil, err
+	}
+	return []byte(base64.StdEncoding.EncodeToString(image)), nil
+}
+
+// UnmarshalText replaces the sketch by the sketch of an image in base64.
+func (s *Sketch) UnmarshalText(text []byte) error {
+	image, err := base64.StdEncoding.DecodeString(string(text))
+	if err != nil {
+		return err
+	}
+	return s.UnmarshalBinary(image)
 }

@@ -4,8 +4,10 @@ package hll
 
 import (
 	"bytes"
+	"encoding/binary"
 	"encoding/gob"
 	"encoding/hex"
+	"encoding/json"
 	"errors"
 	"fmt"
 	"math"
@@ -42,6 +44,55 @@ func filled(t *testing.T, lgK, from, to int) *Sketch {
 func imageOf(t *testing.T, s *Sketch) []byte {
 	t.Helper()
 	return must[[]byte](t)(s.Image(Width8))
+}
+
+// Adds a value of tests/behaviour by each call that takes it, each to a sketch of its own.
+func addedInEachWay(t *testing.T, kind, value string) (sketches []*Sketch) {
+	t.Helper()
+	try := func(add func(*Sketch) error) {
+		s := must[*Sketch](t)(New(12))
+		if err := add(s); err != nil {
+			t.Error(kind, value, err)
+		}
+		sketches = append(sketches, s)
+	}
+	switch kind {
+	case "text", "bytes":
+		decoded := must[[]byte](t)(hex.DecodeString(value))
+		try(func(s *Sketch) error { return s.Add(decoded) })
+		try(func(s *Sketch) error { return s.AddString(string(decoded)) })
+	case "integer":
+		if number, err := strconv.ParseInt(value, 10, 64); err == nil {
+			try(func(s *Sketch) error { return s.AddInt(number) })
+		}
+		if number, err := strconv.ParseUint(value, 10, 64); err == nil {
+			try(func(s *Sketch) error { return s.AddUint(number) })
+		}
+	case "real":
+		number := must[float64](t)(strconv.ParseFloat(value, 64))
+		try(func(s *Sketch) error { return s.AddFloat(number) })
+	}
+	return sketches
+}
+
+// The cases of tests/behaviour, which every binding runs. The check of this package says where they are.
+func TestBehaviour(t *testing.T) {
+	if os.Getenv("HLL_CASES") == "" {
+		t.Skip("HLL_CASES names no file")
+	}
+	cases := string(must[[]byte](t)(os.ReadFile(os.Getenv("HLL_CASES"))))
+	for _, line := range strings.Split(strings.TrimSuffix(cases, "\n"), "\n") {
+		fields := strings.Split(line, "\t")
+		sketches := addedInEachWay(t, fields[0], fields[1])
+		if len(sketches) == 0 {
+			t.Error("no call takes", line)
+		}
+		for _, s := range sketches {
+			if image := imageOf(t, s); fmt.Sprintf("%08x", binary.LittleEndian.Uint32(image[8:])) != fields[2] {
+				t.Error(line, hex.EncodeToString(image))
+			}
+		}
+	}
 }
 
 // The image that docs/FORMAT.md and the other languages have of "ann" and "bob".
@@ -178,11 +229,83 @@ func TestCopies(t *testing.T) {
 		}
 		var buffer bytes.Buffer
 		var read Sketch
-		if err := gob.NewEncoder(&buffer).Encode(s); err != nil {
+		if err := gob.NewEncoder(&buffer).Encode(*s); err != nil {
 			t.Fatal(err)
 		}
 		if err := gob.NewDecoder(&buffer).Decode(&read); err != nil || !bytes.Equal(imageOf(t, &read), before) {
 			t.Error(n, err)
+		}
+	}
+}
+
+// What encoding/json writes and reads: structs and maps, with pointers and without.
+func TestJSON(t *testing.T) {
+	type site struct {
+		All  Sketch
+		Days map[string]*Sketch
+		Kept map[string]Sketch
+	}
+	for _, n := range []int{0, 2, 300, 5000} {
+		monday := filled(t, 12, 0, n)
+		image := imageOf(t, monday)
+		text := must[[]byte](t)(json.Marshal(site{*filled(t, 12, 0, n), map[string]*Sketch{"monday": monday}, map[string]Sketch{"monday": *monday}}))
+		var read site
+		if err := json.Unmarshal(text, &read); err != nil {
+			t.Fatal(err)
+		}
+		kept := read.Kept["monday"]
+		for _, s := range []*Sketch{&read.All, read.Days["monday"], &kept} {
+			if !bytes.Equal(imageOf(t, s), image) {
+				t.Error(n)
+			}
+		}
+	}
+	var s Sketch
+	if err := json.Unmarshal([]byte(`"AgEHDAMIAgj4EWAEvyBkHA=="`), &s); err != nil {
+		t.Fatal(err)
+	}
+	if text := must[[]byte](t)(json.Marshal(s)); string(text) != `"AgEHDAMIAgj4EWAEvyBkHA=="` {
+		t.Error(string(text))
+	}
+	before := imageOf(t, &s)
+	for text, wanted := range map[string]string{
+		`"ann"`:                      "illegal base64 data",
+		`"AgEKDAMIAgj4EWAEvyBkHA=="`: "these 16 bytes are not the image of a sketch: The family byte is not 7. (family)",
+		`"AgEHDAMIAgj4EWAEvyBk"`:     "these 15 bytes are not the image of a sketch: The bytes end inside what the header asks for. (truncated)",
+		`"AgEHDAMIAgj4EWAEvyBkHAA="`: "these 17 bytes are not the image of a sketch: They begin with one of 16 bytes. (trailing)",
+	} {
+		if err := json.Unmarshal([]byte(text), &s); err == nil || !strings.Contains(err.Error(), wanted) || !bytes.Equal(imageOf(t, &s), before) {
+			t.Error(text, err)
+		}
+	}
+}
+
+// The zero Sketch, a closed one and copies of them hold nothing, and each call says so.
+func TestUnusable(t *testing.T) {
+	var zero Sketch
+	closed, union := filled(t, 12, 0, 300), must[*Sketch](t)(NewUnion(12))
+	copied := *closed
+	closed.Close()
+	union.Close()
+	other := filled(t, 12, 0, 3)
+	image := imageOf(t, other)
+	for s, wanted := range map[*Sketch]error{&zero: ErrZero, zero.Clone(): ErrZero, closed: ErrClosed, &copied: ErrClosed, closed.Clone(): ErrClosed, union: ErrClosed} {
+		_, imageErr := s.Image(Width8)
+		_, estimateErr := s.Estimate()
+		_, jsonErr := json.Marshal(map[string]*Sketch{"day": s})
+		_, structErr := json.Marshal(struct{ Day Sketch }{*s})
+		for i, err := range []error{s.Add(nil), s.AddString("ann"), s.AddInt(1), s.AddUint(1), s.AddFloat(1), s.MergeImage(image), s.Merge(other), s.Merge(s), other.Merge(s),
+			imageErr, estimateErr, jsonErr, structErr, gob.NewEncoder(&bytes.Buffer{}).Encode(s)} {
+			if !errors.Is(err, wanted) {
+				t.Error(wanted, i, err)
+			}
+		}
+		if s.LgK() != 0 || s.IsEmpty() {
+			t.Error(wanted, s.LgK(), s.IsEmpty())
+		}
+		s.Close()
+		if err := s.UnmarshalBinary(image); err != nil || !bytes.Equal(imageOf(t, s), image) || !bytes.Equal(imageOf(t, other), image) {
+			t.Error(wanted, err)
 		}
 	}
 }

@@ -6,7 +6,7 @@
 /** A word for each status of a call. */
 export const REASONS = Object.freeze([
   "ok", "truncated", "family", "version", "lgk", "width", "stage", "preamble", "lgarr", "count", "coupon", "register",
-  "argument", "memory", "buffer", "coarser", "other_lg_k",
+  "argument", "memory", "buffer", "coarser", "other_lg_k", "trailing",
 ]);
 
 /** A sentence for each status of a call. */
@@ -28,10 +28,11 @@ export const MESSAGES = Object.freeze([
   "The buffer is smaller than what is to be written.",
   "What is to be merged has fewer registers.",
   "The sketches have different lg_k, and no lg_max_k was given.",
+  "Bytes follow the image.",
 ]);
 // end of what scripts/calls.py writes
 
-const OK = 0, ARGUMENT = 12, MEMORY = 13, BUFFER = 14, COARSER = 15, OTHER_LG_K = 16;
+const OK = 0, ARGUMENT = 12, MEMORY = 13, BUFFER = 14, COARSER = 15, OTHER_LG_K = 16, TRAILING = 17;
 const STAGES = Object.freeze(["list", "set", "registers"]);
 // Of the state of a counter, which has no lists.
 const IN_REGISTERS = 2;
@@ -75,6 +76,32 @@ function bytesOf(data) {
   if (data instanceof ArrayBuffer || isShared(data)) return new Uint8Array(data);
   if (ArrayBuffer.isView(data)) return new Uint8Array(data.buffer, data.byteOffset, data.byteLength);
   throw new TypeError("an image is a Uint8Array, an ArrayBuffer or a view of one");
+}
+
+/** Returns bytes as base64. */
+function base64Of(bytes) {
+  let text = "";
+  for (let at = 0; at < bytes.length; at += 32768) text += String.fromCharCode(...bytes.subarray(at, at + 32768));
+  return btoa(text);
+}
+
+/** Returns the bytes of a string of base64. */
+function bytesOfBase64(text) {
+  if (typeof text !== "string") throw new TypeError("base64 is a string");
+  let decoded;
+  try {
+    decoded = atob(text);
+  } catch {
+    throw rejected("The string is not base64.");
+  }
+  return Uint8Array.from(decoded, (byte) => byte.charCodeAt(0));
+}
+
+/** Returns the options that a caller passes. Throws TypeError for an option that is not one of these keys. */
+function optionsOf(given, ...keys) {
+  const unknown = typeof given === "object" ? Object.keys(given).find((key) => !keys.includes(key)) : given;
+  if (unknown !== undefined) throw new TypeError(`the option ${String(unknown)} is unknown; the options are ${keys.join(" and ")}`);
+  return given;
 }
 
 function checkedLgK(lgK, name = "lg_k") {
@@ -182,11 +209,6 @@ export function make(exports) {
       lower: [realAt(2), realAt(3), realAt(4)],
       upper: [realAt(5), realAt(6), realAt(7)],
     };
-  }
-
-  function boundsOf({ lower, upper }, deviations) {
-    const at = checkedDeviations(deviations) - 1;
-    return [lower[at], upper[at]];
   }
 
   const histogram = () => Array.from({ length: 64 }, (_, value) => countAt(value));
@@ -344,7 +366,10 @@ export function make(exports) {
 
     join(image) {
       const { place } = this;
-      return over(image, (at, len) => wasm.hll_counter_join(place, at, len));
+      return over(image, (at, len) => {
+        checkEnd(at, len);
+        return wasm.hll_counter_join(place, at, len);
+      });
     }
 
     /** Returns what the state says: its lg_k, the width of the images that were merged, its stage, and whether it is empty. */
@@ -374,11 +399,30 @@ export function make(exports) {
     }
   }
 
+  /** Returns how many bytes follow an image in the memory of the module. */
+  function moreAt(at, len) {
+    ensure(wasm.hll_image_trailing(at, len, SIZE));
+    return u32[SIZE >> 2];
+  }
+
+  /** Throws HllError if other bytes follow an image. What is no image is left to the call that reads it. */
+  function checkEnd(at, len) {
+    const more = moreAt(at, len);
+    if (more === 0 || wasm.hll_image_check(at, len) !== OK) return;
+    throw new HllError(TRAILING, { message: `Bytes follow the image, which takes ${len - more} bytes of ${len}.` });
+  }
+
+  /** The counter of each sketch that was freed. */
+  const freed = Object.assign(Object.create(Counter.prototype), { at: 0 });
+
   // ---- images
 
   /** Returns why bytes are not an image, as a word of REASONS, or null if they are one. */
   function fault(data) {
-    const status = over(bytesOf(data), (at, len) => wasm.hll_image_check(at, len));
+    const status = over(bytesOf(data), (at, len) => {
+      const found = wasm.hll_image_check(at, len);
+      return found === OK && moreAt(at, len) > 0 ? TRAILING : found;
+    });
     fresh();
     if (status === MEMORY) throw new HllError(status);
     return status === OK ? null : REASONS[status];
@@ -394,8 +438,8 @@ export function make(exports) {
   }
 
   /** Returns whether an untrusted image is quick to read, or to reject, by its size and the lg_k of its header. */
-  function isSmall(data, { maxLgK = 12, maxBytes = 8192 } = {}) {
-    const bytes = bytesOf(data);
+  function isSmall(data, limits = {}) {
+    const bytes = bytesOf(data), { maxLgK = 12, maxBytes = 8192 } = optionsOf(limits, "maxLgK", "maxBytes");
     return bytes.length <= maxBytes && headOf(bytes).lgK <= maxLgK;
   }
 
@@ -452,7 +496,7 @@ export function make(exports) {
     }));
   }
 
-  const imageOf = (other) => (other instanceof Sketch || other instanceof Union || other instanceof Registers ? other.toBytes() : bytesOf(other));
+  const imageOf = (other) => (other instanceof Estimator ? other.toBytes() : bytesOf(other));
   // The counter of a Sketch or a Union, or null.
   let counterOfSketch, counterOfUnion;
   const counterOf = (other) => (other instanceof Sketch ? counterOfSketch(other) : other instanceof Union ? counterOfUnion(other) : null);
@@ -460,13 +504,43 @@ export function make(exports) {
 
   // ---- sketches
 
+  /** What a Sketch, a Union and Registers have in common: calls over their estimation() and toBytes(). */
+  class Estimator {
+    constructor() {
+      // structuredClone and postMessage copy an object's own properties but not its private fields, so they would make {} of a sketch.
+      // They throw DataCloneError if an own property is a function.
+      Object.defineProperty(this, "toJSON", { value: this.toJSON, enumerable: true });
+    }
+
+    estimate() {
+      return this.estimation().estimate;
+    }
+
+    /** Returns the lower and the upper bound at 1, 2 or 3 standard deviations. */
+    bounds(deviations = 2) {
+      const { lower, upper } = this.estimation(), at = checkedDeviations(deviations) - 1;
+      return [lower[at], upper[at]];
+    }
+
+    /** Returns the image as base64. */
+    toBase64(width) {
+      return base64Of(this.toBytes(width));
+    }
+
+    /** Returns the image as base64, for JSON.stringify. */
+    toJSON() {
+      return this.toBase64();
+    }
+  }
+
   /** A sketch: it counts distinct values. */
-  class Sketch {
+  class Sketch extends Estimator {
     #image = null; // as it was read, until the sketch changes
     #counter = null;
     #width;
 
     constructor(lgK = 12, width = 8) {
+      super();
       if (lgK === unmade) return;
       this.#width = checkedWidth(width);
       this.#counter = new Counter(checkedLgK(lgK), 0);
@@ -476,12 +550,22 @@ export function make(exports) {
       counterOfSketch = (it) => it.#counter;
     }
 
-    /** Reads an image; bytes after it are ignored. */
+    /** Reads an image. */
     static fromBytes(data) {
-      const bytes = bytesOf(data), size = sizeOf(bytes), made = new Sketch(unmade);
+      const bytes = bytesOf(data), made = new Sketch(unmade);
+      over(bytes, (at, len) => {
+        ensure(wasm.hll_image_check(at, len));
+        checkEnd(at, len);
+      });
+      const { size, width } = headOf(bytes);
       made.#image = bytes.slice(0, size);
-      made.#width = headOf(bytes).width;
+      made.#width = width;
       return made;
+    }
+
+    /** Reads an image in base64. */
+    static fromBase64(text) {
+      return Sketch.fromBytes(bytesOfBase64(text));
     }
 
     #own() {
@@ -531,15 +615,6 @@ export function make(exports) {
       });
     }
 
-    estimate() {
-      return this.estimation().estimate;
-    }
-
-    /** Returns the lower and the upper bound at 1, 2 or 3 standard deviations. */
-    bounds(deviations = 2) {
-      return boundsOf(this.estimation(), deviations);
-    }
-
     /** Returns the image, with the fields from which other libraries estimate. */
     toBytes(width = this.#width) {
       checkedWidth(width);
@@ -578,17 +653,21 @@ export function make(exports) {
     /** Frees the memory now, and not when the object is collected. A sketch that was freed can't be used. */
     free() {
       this.#counter?.free();
+      this.#counter = freed;
+      this.#image = null;
     }
   }
 
   // ---- unions
 
   /** A union of sketches, which are added one at a time. */
-  class Union {
+  class Union extends Estimator {
     #counter;
     #width;
 
-    constructor({ lgMaxK = 0, width = 0 } = {}) {
+    constructor(options = {}) {
+      super();
+      const { lgMaxK = 0, width = 0 } = typeof options === "number" ? { lgMaxK: options } : optionsOf(options, "lgMaxK", "width");
       if (width !== 0) checkedWidth(width);
       if (lgMaxK !== 0) checkedLgK(lgMaxK, "lgMaxK");
       this.#width = width;
@@ -608,15 +687,6 @@ export function make(exports) {
     /** Returns the estimate with its error and bounds. */
     estimation() {
       return this.#counter.estimation();
-    }
-
-    estimate() {
-      return this.estimation().estimate;
-    }
-
-    /** Returns the lower and the upper bound at 1, 2 or 3 standard deviations. */
-    bounds(deviations = 2) {
-      return boundsOf(this.estimation(), deviations);
     }
 
     get lgK() {
@@ -653,10 +723,11 @@ export function make(exports) {
   // ---- registers
 
   /** Registers in a typed array of the program's, one byte for each. */
-  class Registers {
+  class Registers extends Estimator {
     #array;
 
     constructor(of = 12) {
+      super();
       this.#array = typeof of === "number" ? new Uint8Array(1 << checkedLgK(of)) : of;
       if (!(this.#array instanceof Uint8Array)) throw new TypeError("registers are an lg_k or a Uint8Array");
       const count = this.#array.length;
@@ -730,15 +801,6 @@ export function make(exports) {
         ensure(wasm.hll_registers_estimate(at, count, REPORT));
         return estimation();
       });
-    }
-
-    estimate() {
-      return this.estimation().estimate;
-    }
-
-    /** Returns the lower and the upper bound at 1, 2 or 3 standard deviations. */
-    bounds(deviations = 2) {
-      return boundsOf(this.estimation(), deviations);
     }
 
     /** Returns an image of the registers. */

@@ -4,7 +4,7 @@
 // scripts/calls.py writes what follows, from bindings/c/hll.h
 export type Reason =
   "ok" | "truncated" | "family" | "version" | "lgk" | "width" | "stage" | "preamble" | "lgarr" | "count" | "coupon" |
-  "register" | "argument" | "memory" | "buffer" | "coarser" | "other_lg_k";
+  "register" | "argument" | "memory" | "buffer" | "coarser" | "other_lg_k" | "trailing";
 // end of what scripts/calls.py writes
 
 /** The words of statuses 0 to 16, and a sentence for each. */
@@ -97,8 +97,13 @@ export class Sketch {
    * default of toBytes, by default 8. Throws HllError if an argument is out of range.
    */
   constructor(lgK?: number, width?: Width);
-  /** Reads an image, which is checked whole. Bytes after it are ignored. Throws HllError if the bytes are not an image. */
+  /** Reads an image, which is checked whole. Throws HllError if the bytes are not an image, or if other bytes follow it (`trailing`). */
   static fromBytes(image: Bytes): Sketch;
+  /**
+   * Reads what toBase64 returned. Throws HllError if the string is not base64 in the standard alphabet, if its bytes are not an
+   * image, or if bytes follow the image.
+   */
+  static fromBase64(text: string): Sketch;
   /**
    * Adds one value; null and undefined are skipped. A number that is a safe integer counts as an integer, and every other number as
    * a real number (Value). Throws TypeError for other types and for a string with half a surrogate pair, and RangeError for a bigint
@@ -121,30 +126,39 @@ export class Sketch {
   bounds(deviations?: 1 | 2 | 3): [number, number];
   /** Returns the image, with the fields from which other libraries estimate. */
   toBytes(width?: Width): Uint8Array;
+  /** Returns the image in base64, with padding. */
+  toBase64(width?: Width): string;
+  /**
+   * Returns toBase64(), for JSON.stringify. structuredClone and postMessage throw DataCloneError, since they can't copy a sketch: send
+   * toBytes(). Unions and Registers do the same.
+   */
+  toJSON(): string;
   readonly lgK: number;
   readonly width: Width;
   readonly stage: Stage;
   readonly isEmpty: boolean;
   /** Returns a copy, independent of this sketch. */
   copy(): Sketch;
-  /** Frees the memory now, and not when the object is collected. A sketch that was freed can't be used. */
+  /** Frees the memory now, and not when the object is collected. A sketch that was freed throws TypeError. */
   free(): void;
 }
 
 /** A union of sketches, which are added one at a time. Its memory is freed when it is collected. */
 export class Union {
   /**
-   * Makes an empty union. With lgMaxK (4 to 21), sketches of every lg_k are merged, and the union has the smallest of lgMaxK and
-   * the lg_k of sketches with registers. Without it all sketches that are not empty need one lg_k. Without a width the union has
-   * the width of the sketches, or 8 if their widths differ.
+   * Makes an empty union. With lgMaxK (4 to 21; a number is lgMaxK), sketches of every lg_k are merged, and the union has the smallest
+   * of lgMaxK and the lg_k of sketches with registers. Without it all sketches that are not empty need one lg_k. Without a width the
+   * union has the width of the sketches, or 8 if their widths differ. Throws TypeError for another option.
    */
-  constructor(options?: { lgMaxK?: number; width?: Width });
+  constructor(options?: number | { lgMaxK?: number; width?: Width });
   /** Merges a sketch, registers or an image. Throws HllError: "other_lg_k", or why the bytes are not an image. */
   add(other: Sketch | Union | Registers | Bytes): this;
   estimate(): number;
   estimation(): Estimation;
   bounds(deviations?: 1 | 2 | 3): [number, number];
   toBytes(width?: Width): Uint8Array;
+  toBase64(width?: Width): string;
+  toJSON(): string;
   /** Returns the union as a sketch, which is a copy. */
   toSketch(): Sketch;
   readonly lgK: number;
@@ -179,15 +193,17 @@ export class Registers {
   bounds(deviations?: 1 | 2 | 3): [number, number];
   /** Returns an image of the registers. */
   toBytes(width?: Width): Uint8Array;
+  toBase64(width?: Width): string;
+  toJSON(): string;
 }
 
-/** Returns why bytes are not an image, or null if they are one. */
+/** Returns why bytes are not one image, or null if they are. */
 export function fault(image: Bytes): Exclude<Reason, "ok"> | null;
 /** Returns what the header of an image and its counts say, of at least its first 40 bytes. The rest is neither needed nor checked. */
 export function headOf(image: Bytes): Head;
 /**
  * Returns whether an untrusted image is quick to read, or to reject: it has at most 8,192 bytes, and its lg_k is at most 12 or its
- * header has a fault.
+ * header has a fault. Throws TypeError for another limit.
  */
 export function isSmall(image: Bytes, limits?: { maxLgK?: number; maxBytes?: number }): boolean;
 /** Returns the size of the image that the bytes begin with. Throws HllError if they are not an image. */

@@ -176,13 +176,13 @@ hll_pg_agree(PG_FUNCTION_ARGS)
 static const char *
 fault_of(const uint8 *bytes, size_t size)
 {
-	size_t		own;
 	hll_status	status;
+	size_t		more;
 
 	CHECK_FOR_INTERRUPTS();
-	status = hll_image_size(bytes, size, &own);
+	status = hll_image_check(bytes, size);
 	if (status == HLL_OK)
-		return own == size || is_empty_table(bytes, size) ? NULL : "trailing";
+		return hll_image_trailing(bytes, size, &more) == HLL_OK && more == 0 ? NULL : hll_reason(HLL_TRAILING);
 	if (status > HLL_REGISTER)
 		check_status(status);
 	return hll_reason(status);

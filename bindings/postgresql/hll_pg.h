@@ -69,10 +69,6 @@ extern void check_whole(const uint8 *image, size_t size, int argument);
 extern bytea *image_in(FunctionCallInfo fcinfo, int argument);
 extern bytea *numbered_image_in(FunctionCallInfo fcinfo, int argument);
 
-/* Returns whether bytes are an empty list with its eight buckets, as other libraries write it in updatable form. No reader
- * looks at the buckets. */
-extern bool is_empty_table(const uint8 *image, size_t size);
-
 /* Raises an error for texts that are not compared by their bytes, once per query, in a function whose second argument is a
  * text (texts.c). */
 extern void check_text(FunctionCallInfo fcinfo);

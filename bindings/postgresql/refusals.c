@@ -44,27 +44,18 @@ check_argument_status(hll_status status, size_t argument)
 		refuse(status, psprintf(" in argument %d", (int) argument + 1));
 }
 
-bool
-is_empty_table(const uint8 *image, size_t size)
-{
-	static const uint8 places[32] = {0};
-	hll_head	head = head_of(image, size);
-
-	return size == 8 + sizeof(places) && head.size == 8 && (head.flags & (HLL_EMPTY | HLL_COMPACT)) == HLL_EMPTY &&
-		memcmp(image + 8, places, sizeof(places)) == 0;
-}
-
 /* The head says how many bytes an image has. If its first bytes are no image, the call that reads it reports that. */
 void
 check_whole(const uint8 *image, size_t size, int argument)
 {
-	hll_head	head = head_of(image, size);
-	size_t		own = head.size;
+	size_t		more,
+				own;
 	hll_status	status;
 
 	CHECK_FOR_INTERRUPTS();
-	if (head.fault != HLL_OK || head.size >= size || is_empty_table(image, size))
+	if (hll_image_trailing(image, size, &more) == HLL_OK && more == 0)
 		return;
+	own = size - more;
 	status = hll_image_check(image, own);
 	CHECK_FOR_INTERRUPTS();
 	if (status == HLL_MEMORY)

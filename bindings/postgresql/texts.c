@@ -1,7 +1,7 @@
 /* SPDX-License-Identifier: Apache-2.0 */
 /*
- * Texts that may be equal though their bytes differ: texts of other types, such as citext, and under a nondeterministic
- * collation. Counted by their bytes they would count twice, so they are rejected.
+ * Values that are rejected, since equal ones may have different texts and would count twice: values of most types, texts of other
+ * types, such as citext, and texts under a nondeterministic collation.
  */
 #include "hll_pg.h"
 
@@ -15,20 +15,58 @@
 #include "utils/lsyscache.h"
 #include "utils/syscache.h"
 
-/* Raises an error for values of a type. `where` says where the cast is missing, and may be empty. */
-static void
-refuse_uncast(Oid type, const char *where)
+#define AS_TEXT "value::text"
+
+/*
+ * What to count instead of values of a type that is rejected: a text that equal values (`=`) share, and unequal ones don't. The
+ * types of the last two lines are counted as they are, and only their arrays are rejected. README.md has the same table
+ * ("Values"); tests/kinds.py compares both, and tries the forms.
+ */
+static const struct
 {
-	ereport(ERROR,
-			(errcode(ERRCODE_DATATYPE_MISMATCH),
-			 errmsg("values of type %s cannot be counted as they are", format_type_be(type)),
-			 errhint("Cast them to the type as which they are to count, for example CAST(value AS text)%s.", where)));
+	const char *form;
+	Oid			types[64];		/* and InvalidOid */
+}			forms[] = {
+	{"trim_scale(value)::text", {NUMERICOID}},
+	{"justify_interval(value)::text", {INTERVALOID}},
+	{"regexp_replace(value::text, '\\.?(?<=\\.\\d*)0+\\M', '', 'g')", {NUMERICARRAYOID, NUMRANGEOID, NUMMULTIRANGEOID}},
+	{"value::oid::text", {REGCLASSOID, REGCOLLATIONOID, REGCONFIGOID, REGDICTIONARYOID, REGNAMESPACEOID, REGOPEROID,
+		REGOPERATOROID, REGPROCOID, REGPROCEDUREOID, REGROLEOID, REGTYPEOID}},
+	{AS_TEXT, {TIMEOID, TIMETZOID, BITOID, VARBITOID, MONEYOID, INETOID, CIDROID, MACADDROID, MACADDR8OID, OIDOID, XIDOID, XID8OID,
+		CIDOID, TIDOID, PG_LSNOID, TSVECTOROID, INT4RANGEOID, INT8RANGEOID, DATERANGEOID, TSRANGEOID, TSTZRANGEOID,
+		INT4MULTIRANGEOID, INT8MULTIRANGEOID, DATEMULTIRANGEOID, TSMULTIRANGEOID, TSTZMULTIRANGEOID,
+		TEXTOID, VARCHAROID, NAMEOID, CHAROID, BYTEAOID, INT2OID, INT4OID, INT8OID, BOOLOID, DATEOID, TIMESTAMPOID,
+		TIMESTAMPTZOID, UUIDOID}}
+};
+
+/* Returns what to count instead of values of a type, or NULL. */
+static const char *
+form_of(Oid type)
+{
+	const char *of_element;
+
+	if (!OidIsValid(type))
+		return NULL;
+	type = getBaseType(type);
+	for (size_t i = 0; i < lengthof(forms); i++)
+		for (const Oid *listed = forms[i].types; OidIsValid(*listed); listed++)
+			if (*listed == type)
+				return forms[i].form;
+	of_element = type_is_enum(type) ? AS_TEXT : form_of(get_element_type(type));
+	return of_element != NULL && strcmp(of_element, AS_TEXT) == 0 ? AS_TEXT : NULL;
 }
 
 void
 refuse_type(Oid type)
 {
-	refuse_uncast(type, "");
+	const char *form = form_of(type);
+
+	ereport(ERROR,
+			(errcode(ERRCODE_DATATYPE_MISMATCH),
+			 errmsg("values of type %s cannot be counted as they are", format_type_be(type)),
+			 form != NULL ? errhint("Count %s, which is the same text for equal values.", form) :
+			 errhint("Equal values of this type can have different texts, so count a part of the value, for example a field, a "
+					 "bound or an element.")));
 }
 
 /* The step of an aggregate. */
@@ -99,7 +137,11 @@ check_expression(PlanState *node, Node *value)
 		return;
 	type = getBaseType(exprType((Node *) cast->arg));
 	if (type != TEXTOID && type != VARCHAROID)
-		refuse_uncast(exprType((Node *) cast->arg), computed == value ? "" : ", everywhere in the query");
+		ereport(ERROR,
+				(errcode(ERRCODE_DATATYPE_MISMATCH),
+				 errmsg("values of type %s cannot be counted as they are", format_type_be(exprType((Node *) cast->arg))),
+				 errhint("Count their spellings with CAST(value AS text), or a form that equal values share, for example "
+						 "lower(value)%s.", computed == value ? "" : ", everywhere in the query")));
 }
 
 /* Checks the values of each call that shares the steps of this one: PostgreSQL takes no notice of how a cast was written. */

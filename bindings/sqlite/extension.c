@@ -97,27 +97,18 @@ static hll_head head_of(hll_bytes image)
     return head;
 }
 
-bool is_empty_table(hll_bytes bytes)
-{
-    static const uint8_t places[32] = {0};
-    hll_head head = head_of(bytes);
-
-    return bytes.len == 8 + sizeof places && head.size == 8 && (head.flags & (HLL_EMPTY | HLL_COMPACT)) == HLL_EMPTY &&
-           memcmp(bytes.bytes + 8, places, sizeof places) == 0;
-}
-
 /* The head says how many bytes an image has: `own`. If its first bytes are no image, the call that reads it reports that. */
 static hll_status whole_status(hll_bytes image, size_t *own)
 {
-    hll_head head = head_of(image);
     hll_status status;
+    size_t more;
 
     *own = image.len;
-    if (head.fault != HLL_OK || head.size >= image.len || is_empty_table(image))
+    if (hll_image_trailing(image.bytes, image.len, &more) == HLL_OK && more == 0)
         return HLL_OK;
-    status = hll_image_check(image.bytes, (size_t)head.size);
+    status = hll_image_check(image.bytes, image.len - more);
     if (status == HLL_OK)
-        *own = (size_t)head.size;
+        *own -= more;
     return status == HLL_MEMORY ? status : HLL_OK;
 }
 

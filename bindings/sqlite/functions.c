@@ -184,14 +184,14 @@ static bool fault_of(sqlite3_context *context, sqlite3_value *value, const char 
 {
     hll_bytes bytes;
     hll_status status;
-    size_t own;
+    size_t more;
 
     *fault = "type";
     if (sqlite3_value_type(value) != SQLITE_BLOB)
         return true;
     if (!bytes_in(context, value, &bytes))
         return false;
-    status = hll_image_size(IMAGE(bytes), &own);
+    status = hll_image_check(IMAGE(bytes));
     if (status > HLL_REGISTER) {
         refuse(context, status, "");
         return false;
@@ -199,8 +199,8 @@ static bool fault_of(sqlite3_context *context, sqlite3_value *value, const char 
     *fault = NULL;
     if (status != HLL_OK)
         *fault = hll_reason(status);
-    else if (own < bytes.len && !is_empty_table(bytes))
-        *fault = "trailing";
+    else if (hll_image_trailing(IMAGE(bytes), &more) != HLL_OK || more != 0)
+        *fault = hll_reason(HLL_TRAILING);
     return true;
 }
 

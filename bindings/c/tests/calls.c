@@ -7,28 +7,30 @@
 /* An image for each reason. */
 static const char *const faulty[] = {
     NULL,
-    "0201070a030c00",                                                           /* truncated */
-    "0201060a030c0008",                                                         /* family */
-    "0202070a030c0008",                                                         /* version */
-    "02010703030c0008",                                                         /* lgk */
-    "0201070a030c000c",                                                         /* width */
-    "0201070a030c000b",                                                         /* stage */
-    "0301070a030c0008",                                                         /* preamble */
-    "0201070a040c0008",                                                         /* lgarr */
-    "0201070a030809080000000000000000",                                         /* count */
-    "0201070a030801080500000000000000",                                         /* coupon */
-    "0a0107040000000a" "000000000000000000000000000000000000000000000000" "1000000000000000"
-    "40000000000000000000000000000000",                                         /* register */
+    "0201070a030c00",                   /* truncated */
+    "0201060a030c0008",                 /* family */
+    "0202070a030c0008",                 /* version */
+    "02010703030c0008",                 /* lgk */
+    "0201070a030c000c",                 /* width */
+    "0201070a030c000b",                 /* stage */
+    "0301070a030c0008",                 /* preamble */
+    "0201070a040c0008",                 /* lgarr */
+    "0201070a030809080000000000000000", /* count */
+    "0201070a030801080500000000000000", /* coupon */
+    "0a0107040000000a"
+    "000000000000000000000000000000000000000000000000"
+    "1000000000000000"
+    "40000000000000000000000000000000", /* register */
 };
 
 static void test_reasons(void)
 {
-    static const char *const words[] = {"ok", "truncated", "family", "version", "lgk", "width", "stage", "preamble",
-                                        "lgarr", "count", "coupon", "register", "argument", "memory", "buffer", "coarser",
-                                        "other_lg_k"};
+    static const char *const words[] = {"ok",       "truncated", "family", "version", "lgk",        "width",
+                                        "stage",    "preamble",  "lgarr",  "count",   "coupon",     "register",
+                                        "argument", "memory",    "buffer", "coarser", "other_lg_k", "trailing"};
     int status;
     for (status = 0; status < 256; status++)
-        CHECK(strcmp(hll_reason((hll_status)status), status < 17 ? words[status] : "unknown") == 0, "%d", status);
+        CHECK(strcmp(hll_reason((hll_status)status), status < 18 ? words[status] : "unknown") == 0, "%d", status);
 }
 
 /* A sentence for each, and one for all numbers that are none. */
@@ -38,9 +40,9 @@ static void test_messages(void)
     for (status = 0; status < 256; status++) {
         const char *message = hll_message((hll_status)status);
         CHECK(strlen(message) > 10 && message[strlen(message) - 1] == '.', "%d", status);
-        for (other = 0; other < status && status < 17; other++)
+        for (other = 0; other < status && status < 18; other++)
             CHECK(strcmp(message, hll_message((hll_status)other)) != 0, "%d as %d", status, other);
-        CHECK((strcmp(message, hll_message(255)) == 0) == (status >= 17), "%d", status);
+        CHECK((strcmp(message, hll_message(255)) == 0) == (status >= 18), "%d", status);
     }
 }
 
@@ -55,7 +57,8 @@ static void test_room(void)
     for (lg_k = 4; lg_k <= 21; lg_k++)
         for (width = 4; width <= 8; width += 2) {
             CHECK(hll_registers_image(registers, (size_t)1 << lg_k, width, out, sizeof out, &size) == HLL_OK, "%d", lg_k);
-            CHECK(size == HLL_IMAGE_ROOM(lg_k, width) && size <= HLL_IMAGE_MAX(lg_k), "%d, %d: %d bytes", lg_k, width, (int)size);
+            CHECK(size == HLL_IMAGE_ROOM(lg_k, width) && size <= HLL_IMAGE_MAX(lg_k), "%d, %d: %d bytes", lg_k, width,
+                  (int)size);
         }
 }
 
@@ -113,8 +116,8 @@ static void test_failed(void)
         images[8 * bad + 2] = 6;
         images[8 * 8 + 1] ^= bad % 2 ? 0 : 4;
         failed = 99;
-        CHECK(hll_images_union(10, 8, images, sizeof images, ends, 9, out, sizeof out, &size, &failed)
-                  == HLL_FAMILY, "a bad image %d", (int)bad);
+        CHECK(hll_images_union(10, 8, images, sizeof images, ends, 9, out, sizeof out, &size, &failed) == HLL_FAMILY,
+              "a bad image %d", (int)bad);
         CHECK(failed == bad, "%d told for %d", (int)failed, (int)bad);
         CHECK(hll_images_union(10, 8, images, sizeof images, ends, bad, out, sizeof out, &size, &failed) == HLL_OK,
               "the images before %d", (int)bad);
@@ -131,7 +134,10 @@ static void test_arguments(void)
     static const unsigned numbers[] = {0, 64, 255, 256 + 8, 268, UINT_MAX};
     static const size_t good_ends[] = {2, 2, 8}, descend[] = {2, 1}, past[] = {2, 9}, huge[] = {(size_t)-1};
     static const size_t no_ends[] = {0};
-    static const struct { const size_t *ends; size_t n; } wrong[] = {{descend, 2}, {past, 2}, {huge, 1}};
+    static const struct {
+        const size_t *ends;
+        size_t n;
+    } wrong[] = {{descend, 2}, {past, 2}, {huge, 1}};
     uint8_t out[64] = {0}, before[64] = {0}, registers[64] = {0};
     const hll_bytes part = {bad, 8};
     uint32_t coupons[4];
@@ -146,8 +152,8 @@ static void test_arguments(void)
         CHECK(hll_images_unionv(outside[i], 8, &part, 1, out, 64, &size, &failed) == HLL_ARGUMENT, "unionv");
         CHECK(hll_images_unionv(10, widths[i], &part, 1, out, 64, &size, &failed) == HLL_ARGUMENT, "unionv");
         CHECK(hll_image_fold(bad, 8, outside[i], out, 64, &size) == HLL_ARGUMENT, "fold to %u", outside[i]);
-        CHECK(hll_image_convert(bad, 8, widths[i], out, 64, &size) == (widths[i] ? HLL_ARGUMENT : HLL_FAMILY), "convert to %u",
-              widths[i]);
+        CHECK(hll_image_convert(bad, 8, widths[i], out, 64, &size) == (widths[i] ? HLL_ARGUMENT : HLL_FAMILY),
+              "convert to %u", widths[i]);
         CHECK(hll_registers_fold(registers, 64, outside[i]) == HLL_ARGUMENT, "registers to %u", outside[i]);
         CHECK(hll_registers_image(registers, 64, widths[i], out, 64, &size) == HLL_ARGUMENT, "registers at %u", widths[i]);
     }
@@ -155,8 +161,7 @@ static void test_arguments(void)
         CHECK(hll_image_add_coupon(bad, 8, 5, numbers[i], out, 64, &size) == HLL_ARGUMENT, "value %u", numbers[i]);
     for (i = 0; i < 3; i++) {
         CHECK(hll_image_add(bad, 8, bad, 8, wrong[i].ends, wrong[i].n, out, 64, &size) == HLL_ARGUMENT, "add");
-        CHECK(hll_images_union(10, 8, bad, 8, wrong[i].ends, wrong[i].n, out, 64, &size, &failed) == HLL_ARGUMENT,
-              "union");
+        CHECK(hll_images_union(10, 8, bad, 8, wrong[i].ends, wrong[i].n, out, 64, &size, &failed) == HLL_ARGUMENT, "union");
         CHECK(hll_coupons(bad, 8, wrong[i].ends, wrong[i].n, coupons, 0) == HLL_ARGUMENT, "coupons");
     }
     CHECK(hll_image_add_coupon(bad, 8, 67108864, 1, out, 64, &size) == HLL_ARGUMENT, "slot");
@@ -172,13 +177,13 @@ static void test_arguments(void)
 }
 
 /* Whether a call answers HLL_OK and writes these bytes. */
-#define EXPECT(what, call, out, size, digits)                                                   \
-    do {                                                                                        \
-        bytes wanted = of_hex(digits);                                                          \
-        hll_status status = call;                                                               \
-        CHECK(status == HLL_OK, "%s: %s", what, hll_reason(status));                            \
-        CHECK(size == wanted.len && memcmp(out, wanted.at, size) == 0, "%s: other bytes", what); \
-        free(wanted.at);                                                                        \
+#define EXPECT(what, call, out, size, digits)                                                                              \
+    do {                                                                                                                   \
+        bytes wanted = of_hex(digits);                                                                                     \
+        hll_status status = call;                                                                                          \
+        CHECK(status == HLL_OK, "%s: %s", what, hll_reason(status));                                                       \
+        CHECK(size == wanted.len && memcmp(out, wanted.at, size) == 0, "%s: other bytes", what);                           \
+        free(wanted.at);                                                                                                   \
     } while (0)
 
 static void test_small_images(void)
@@ -226,11 +231,13 @@ static void test_own_width(void)
     for (stage = 0; stage < 3; stage++)
         for (width = 4; width <= 8; width += 2) {
             bytes image = image_of_values(12, (uint8_t)width, 0, values_of_stage[stage]);
-            CHECK(hll_image_convert(image.at, image.len, width, wanted, sizeof wanted, &wanted_size) == HLL_OK, "%u", width);
+            CHECK(hll_image_convert(image.at, image.len, width, wanted, sizeof wanted, &wanted_size) == HLL_OK, "%u",
+                  width);
             CHECK(hll_image_convert(image.at, image.len, 0, out, sizeof out, &size) == HLL_OK, "own width, %u", width);
             CHECK(size == wanted_size && memcmp(out, wanted, size) == 0, "at its own width, %u", width);
             for (len = 0; len < 12; len++)
-                CHECK(hll_image_convert(image.at, len, 0, out, sizeof out, &size) == hll_image_check(image.at, len), "%d", (int)len);
+                CHECK(hll_image_convert(image.at, len, 0, out, sizeof out, &size) == hll_image_check(image.at, len), "%d",
+                      (int)len);
             free(image.at);
         }
     CHECK(hll_image_convert(no_width, 8, 0, out, sizeof out, &size) == HLL_WIDTH, "no width of its own");
@@ -259,7 +266,8 @@ static void test_other_ends(void)
         CHECK(hll_coupons_ends32(values, length * n, offsets, n + 1, coupons, n) == HLL_OK, "offsets, %d", (int)length);
         CHECK(memcmp(coupons, wanted, sizeof coupons) == 0, "coupons between offsets, %d", (int)length);
         CHECK(hll_coupons_fixed(values, length * n, length, coupons, n - 1) == HLL_BUFFER, "room, %d", (int)length);
-        CHECK(hll_coupons_ends32(values, length * n, offsets, n + 1, coupons, n - 1) == HLL_BUFFER, "room, %d", (int)length);
+        CHECK(hll_coupons_ends32(values, length * n, offsets, n + 1, coupons, n - 1) == HLL_BUFFER, "room, %d",
+              (int)length);
         CHECK(hll_coupons_ends32(values, length * n - 1, offsets, n + 1, coupons, n) == HLL_ARGUMENT, "past the bytes");
         memset(registers, 0, 64), memset(others, 0, 64);
         CHECK(hll_registers_add(others, 64, values, length * n, ends, n) == HLL_OK, "ends, %d", (int)length);
@@ -273,8 +281,10 @@ static void test_wrong_ends(void)
 {
     static const int32_t none[] = {3}, inner[] = {3, 3, 5}, descend[] = {0, 3, 2}, past[] = {0, 9}, first_past[] = {9};
     static const int32_t negative[] = {-1, 2}, last_negative[] = {0, INT32_MIN};
-    static const struct { const int32_t *offsets; size_t n; } wrong[] = {
-        {NULL, 0}, {descend, 3}, {past, 2}, {first_past, 1}, {negative, 2}, {last_negative, 2}};
+    static const struct {
+        const int32_t *offsets;
+        size_t n;
+    } wrong[] = {{NULL, 0}, {descend, 3}, {past, 2}, {first_past, 1}, {negative, 2}, {last_negative, 2}};
     uint8_t values[8] = {1, 2, 3, 4, 5, 6, 7, 8}, registers[16] = {0}, before[16] = {0};
     uint32_t coupons[4] = {9, 9, 9, 9};
     size_t i;
@@ -355,8 +365,8 @@ static void test_merges(void)
             bytes left = image_of_values(12, (uint8_t)(4 + i % 3 * 2), 0, values);
             bytes right = image_of_values(12, (uint8_t)(4 + j % 3 * 2), values, more);
             bytes all = image_of_values(12, width, 0, values + more);
-            hll_status status = hll_image_merge(12, width, left.at, left.len, right.at, right.len, merged,
-                                                sizeof merged, &size, &failed);
+            hll_status status = hll_image_merge(12, width, left.at, left.len, right.at, right.len, merged, sizeof merged,
+                                                &size, &failed);
             CHECK(status == HLL_OK && size == all.len && memcmp(merged, all.at, size) == 0, "%d, %d", (int)i, (int)j);
             status = hll_image_merge(12, width, right.at, right.len, left.at, left.len, merged, sizeof merged, &size,
                                      &failed);
@@ -393,7 +403,9 @@ static void test_folds(void)
 /* Registers of 63 are counted. */
 static void test_histogram_of_63(void)
 {
-    bytes image = of_hex("0a0107040010000a" "000000000000000000000000000000000000000000000000" "0d00000000000000"
+    bytes image = of_hex("0a0107040010000a"
+                         "000000000000000000000000000000000000000000000000"
+                         "0d00000000000000"
                          "3f0000000000000000003e000000003f");
     hll_histogram histogram;
     CHECK(hll_image_histogram(image.at, image.len, &histogram) == HLL_OK, "histogram");
@@ -405,18 +417,29 @@ static void test_histogram_of_63(void)
 /* The estimator fields of registers, as docs/FORMAT.md has them. */
 static void test_words(void)
 {
-    bytes image = of_hex("0a0107040000000a" "111111111111111122222222222222223333333333333333" "0c00000000000000"
+    bytes image = of_hex("0a0107040000000a"
+                         "111111111111111122222222222222223333333333333333"
+                         "0c00000000000000"
                          "011f203f000000000000000000000000");
     uint8_t out[64];
     size_t size = 0;
     EXPECT("words", hll_image_set_estimator_fields(image.at, image.len, out, sizeof out, &size), out, size,
-           "0a0107040010000a" "0000000000000000" "0000040000002940" "000020000000f03d" "0c00000000000000"
+           "0a0107040010000a"
+           "0000000000000000"
+           "0000040000002940"
+           "000020000000f03d"
+           "0c00000000000000"
            "011f203f000000000000000000000000");
     EXPECT("no words", hll_image_clear_estimator_fields(image.at, image.len, out, sizeof out, &size), out, size,
-           "0a0107040010000a" "0000000000000000" "0000000000000000" "0000000000000000" "0c00000000000000"
+           "0a0107040010000a"
+           "0000000000000000"
+           "0000000000000000"
+           "0000000000000000"
+           "0c00000000000000"
            "011f203f000000000000000000000000");
-    EXPECT("a list has none", hll_image_clear_estimator_fields((const uint8_t *)"\2\1\7\12\3\14\0\10", 8, out,
-                                                              sizeof out, &size), out, size, "0201070a030c0008");
+    EXPECT("a list has none",
+           hll_image_clear_estimator_fields((const uint8_t *)"\2\1\7\12\3\14\0\10", 8, out, sizeof out, &size), out, size,
+           "0201070a030c0008");
     free(image.at);
 }
 
@@ -448,15 +471,14 @@ static void test_words_by_default(void)
         WRITES(hll_image_convert(zero.at, zero.len, (uint8_t)width, out, sizeof out, &size), words);
         WRITES(hll_image_fold(zero.at, zero.len, 12, out, sizeof out, &size), words);
         WRITES(hll_image_add(zero.at, zero.len, zero.at, 0, no_ends, 0, out, sizeof out, &size), words);
-        WRITES(hll_image_merge(12, (uint8_t)width, zero.at, zero.len, zero.at, zero.len, out, sizeof out, &size,
-                               &failed), words);
-        WRITES(hll_images_union(12, (uint8_t)width, zero.at, zero.len, &end, 1, out, sizeof out, &size, &failed),
+        WRITES(hll_image_merge(12, (uint8_t)width, zero.at, zero.len, zero.at, zero.len, out, sizeof out, &size, &failed),
                words);
+        WRITES(hll_images_union(12, (uint8_t)width, zero.at, zero.len, &end, 1, out, sizeof out, &size, &failed), words);
         WRITES(hll_image_convert(other.at, other.len, (uint8_t)width, out, sizeof out, &size), other);
-        WRITES(hll_images_union(12, (uint8_t)width, other.at, other.len, &end, 1, out, sizeof out, &size, &failed),
-               other);
-        WRITES(hll_image_merge(12, (uint8_t)width, other.at, other.len, other.at, other.len, out, sizeof out, &size,
-                               &failed), words);
+        WRITES(hll_images_union(12, (uint8_t)width, other.at, other.len, &end, 1, out, sizeof out, &size, &failed), other);
+        WRITES(
+            hll_image_merge(12, (uint8_t)width, other.at, other.len, other.at, other.len, out, sizeof out, &size, &failed),
+            words);
         free(words.at);
         free(zero.at);
         free(other.at);
@@ -465,25 +487,38 @@ static void test_words_by_default(void)
 
 /* Registers of which each byte is known: what is merged, folded, converted and said of them. */
 #define HEADER_OF(lg_k, flags, mode) "0a01070" lg_k "00" flags "00" mode
-#define NO_WORDS "0000000000000000" "0000000000000000" "0000000000000000"
-#define WORDS "0000000000000000" "0000080100002c40" "0000000000000000" /* kxq0 is 14 + 2^-25 + 2^-30 */
-static const char *const left = HEADER_OF("4", "10", "0a") NO_WORDS "0e00000000000000" "0a140000000000000000000000000000";
+#define NO_WORDS                                                                                                           \
+    "0000000000000000"                                                                                                     \
+    "0000000000000000"                                                                                                     \
+    "0000000000000000"
+#define WORDS                                                                                                              \
+    "0000000000000000"                                                                                                     \
+    "0000080100002c40"                                                                                                     \
+    "0000000000000000" /* kxq0 is 14 + 2^-25 + 2^-30 */
+static const char *const left = HEADER_OF("4", "10", "0a") NO_WORDS "0e00000000000000"
+                                                                    "0a140000000000000000000000000000";
 static const char *const right = HEADER_OF("5", "10", "0a") NO_WORDS "1c00000000000000"
-                                 "0f120000000000000000000000000000" "191e0000000000000000000000000000";
-static const char *const joined = HEADER_OF("4", "10", "0a") NO_WORDS "0e00000000000000" "191e0000000000000000000000000000";
-static const char *const with_words = HEADER_OF("4", "10", "0a") WORDS "0e00000000000000" "191e0000000000000000000000000000";
-static const char *const of_four_bits = HEADER_OF("4", "18", "02") WORDS "0e00000002000000" "ff00000000000000"
-                                        "0000006401000078";
+                                                                     "0f120000000000000000000000000000"
+                                                                     "191e0000000000000000000000000000";
+static const char *const joined = HEADER_OF("4", "10", "0a") NO_WORDS "0e00000000000000"
+                                                                      "191e0000000000000000000000000000";
+static const char *const with_words = HEADER_OF("4", "10", "0a") WORDS "0e00000000000000"
+                                                                       "191e0000000000000000000000000000";
+static const char *const of_four_bits = HEADER_OF("4", "18", "02") WORDS "0e00000002000000"
+                                                                         "ff00000000000000"
+                                                                         "0000006401000078";
 
 static void test_known_registers(void)
 {
-    bytes a = of_hex(left), b = of_hex(right), plain = of_hex(joined), words = of_hex(with_words), four = of_hex(of_four_bits);
+    bytes a = of_hex(left), b = of_hex(right), plain = of_hex(joined), words = of_hex(with_words),
+          four = of_hex(of_four_bits);
     const hll_bytes parts[] = {{a.at, a.len}, {(const uint8_t *)"\2\1\7\12\3\14\0\10", 8}, {b.at, b.len}};
     uint8_t out[96], registers[16] = {0}, same = 7;
     size_t size = 0, failed = 5;
     hll_info info;
     hll_histogram histogram;
-    EXPECT("merged", hll_image_merge(12, 8, a.at, a.len, b.at, b.len, out, sizeof out, &size, &failed), out, size, with_words);
+    EXPECT("merged", hll_image_merge(12, 8, a.at, a.len, b.at, b.len, out, sizeof out, &size, &failed), out, size,
+           with_words);
     EXPECT("the other way", hll_image_merge(12, 8, b.at, b.len, a.at, a.len, out, sizeof out, &size, &failed), out, size,
            with_words);
     EXPECT("parts", hll_images_unionv(12, 8, parts, 3, out, sizeof out, &size, &failed), out, size, with_words);
@@ -511,7 +546,9 @@ static void test_known_registers(void)
 }
 
 /* Registers of four bits, by the minimum in the header, the nibbles and two exceptions. */
-#define FOUR_BITS(minimum, nibbles, entries) "0a01070400" "18" minimum "02" NO_WORDS "0000000002000000" nibbles entries
+#define FOUR_BITS(minimum, nibbles, entries)                                                                               \
+    "0a01070400"                                                                                                           \
+    "18" minimum "02" NO_WORDS "0000000002000000" nibbles entries
 #define SIX_BITS(registers) HEADER_OF("4", "10", "06") NO_WORDS "0e00000000000000" registers
 
 /* Whether two images of hexadecimal digits agree, in either order. */
@@ -520,7 +557,8 @@ static void check_agreement(const char *what, const char *left_digits, const cha
     bytes a = of_hex(left_digits), b = of_hex(right_digits);
     uint8_t same = 7;
     size_t failed = 5;
-    CHECK(hll_images_agree(a.at, a.len, b.at, b.len, &same, &failed) == HLL_OK && same == expected && failed == 5, "%s", what);
+    CHECK(hll_images_agree(a.at, a.len, b.at, b.len, &same, &failed) == HLL_OK && same == expected && failed == 5, "%s",
+          what);
     same = 7;
     CHECK(hll_images_agree(b.at, b.len, a.at, a.len, &same, &failed) == HLL_OK && same == expected && failed == 5,
           "%s, the other way", what);
@@ -531,7 +569,8 @@ static void check_agreement(const char *what, const char *left_digits, const cha
 static void test_agreement(void)
 {
     static const char *const four = FOUR_BITS("01", "ff00000000000000", "0000006401000078");
-    static const char *const six = SIX_BITS("8a4100000000000000000000" "00");
+    static const char *const six = SIX_BITS("8a4100000000000000000000"
+                                            "00");
     bytes good = of_hex(four), bad = of_hex(four);
     uint8_t same = 7;
     size_t failed = 5;
@@ -543,11 +582,20 @@ static void test_agreement(void)
     check_agreement("another nibble", four, FOUR_BITS("01", "ff00000000000010", "0000006401000078"), 0);
     check_agreement("another minimum", four, FOUR_BITS("00", "ff11111111111111", "0000006401000078"), 1);
     check_agreement("another minimum and nibble", four, FOUR_BITS("00", "ff11111111111121", "0000006401000078"), 0);
-    check_agreement("the same nibbles above another minimum", four, FOUR_BITS("00", "ff00000000000000", "0000006401000078"), 0);
-    check_agreement("another last byte", six, SIX_BITS("8a4100000000000000000000" "ff"), 1);
-    check_agreement("another register of six bits", six, SIX_BITS("8a4100000000000000000004" "00"), 0);
-    check_agreement("another register of eight bits", joined, HEADER_OF("4", "10", "0a") NO_WORDS "0e00000000000000"
-                    "191e0000000000000000000000000001", 0);
+    check_agreement("the same nibbles above another minimum", four, FOUR_BITS("00", "ff00000000000000", "0000006401000078"),
+                    0);
+    check_agreement("another last byte", six,
+                    SIX_BITS("8a4100000000000000000000"
+                             "ff"),
+                    1);
+    check_agreement("another register of six bits", six,
+                    SIX_BITS("8a4100000000000000000004"
+                             "00"),
+                    0);
+    check_agreement("another register of eight bits", joined,
+                    HEADER_OF("4", "10", "0a") NO_WORDS "0e00000000000000"
+                                                        "191e0000000000000000000000000001",
+                    0);
     check_agreement("other fields", joined, with_words, 1);
     check_agreement("another lg_k", right, joined, 1);
     check_agreement("another width", joined, FOUR_BITS("00", "ff00000000000000", "0000006401000078"), 1);
@@ -618,6 +666,8 @@ static void test_sizes(void)
             CHECK(hll_image_size(more.at, image.len - 1, &size) == HLL_TRUNCATED && size == 4711, "a byte too few");
             CHECK(hll_image_size(more.at, image.len, &size) == HLL_OK && size == image.len, "%d", (int)size);
             CHECK(hll_image_size(more.at, more.len, &size) == HLL_OK && size == image.len, "%d, more", (int)size);
+            CHECK(hll_image_trailing(more.at, more.len, &size) == HLL_OK && size == 9, "%d after it", (int)size);
+            CHECK(hll_image_trailing(more.at, image.len, &size) == HLL_OK && size == 0, "%d after all", (int)size);
             free(more.at);
             free(image.at);
         }
@@ -678,7 +728,10 @@ static void test_null(void)
 /* A list or a set whose table has the size byte 0 is refused, and with the byte that its coupons ask for it is read. */
 static void test_table_sizes(void)
 {
-    static const struct { size_t values; uint8_t lg_places; } rows[] = {
+    static const struct {
+        size_t values;
+        uint8_t lg_places;
+    } rows[] = {
         {0, 3}, {1, 3}, {7, 3}, {8, 5}, {24, 5}, {25, 6}, {48, 6}, {49, 7}, {384, 9},
     };
     size_t i;

@@ -40,6 +40,13 @@ static void check_header(const uint8_t *image, const hll_head *head)
     CHECK(head->minimum == (image[7] % 16 == 2 ? image[6] : 0), "minimum %d", head->minimum);
 }
 
+static int is_zero(const uint8_t *at, size_t len)
+{
+    while (len > 0 && at[len - 1] == 0)
+        len--;
+    return len == 0;
+}
+
 /* A head has a fault exactly if reading the image stops at a check of the header or of the counts, and it is that check. Otherwise
  * the image is cut off exactly if it is larger than the bytes. */
 static void check_head(const uint8_t *image, size_t len)
@@ -47,7 +54,12 @@ static void check_head(const uint8_t *image, size_t len)
     hll_head head = read_head(image, len);
     size_t size = 0;
     hll_status status = hll_image_size(image, len, &size);
+    size_t more = 4711;
+    int is_empty_table = len == 40 && head.size == 8 && (image[5] & 12) == 4 && is_zero(image + 8, 32);
     check_header(image, &head);
+    CHECK(hll_image_trailing(image, len, &more) == HLL_OK, "bytes after an image");
+    CHECK(more == (head.fault == HLL_OK && len > head.size && !is_empty_table ? len - head.size : 0), "%d after it",
+          (int)more);
     CHECK((head.size == 0) == (head.fault != HLL_OK), "size %d, fault %d", (int)head.size, head.fault);
     if (head.fault != HLL_OK) {
         CHECK(status == head.fault && head.count == 0, "fault %d, and not %d", head.fault, status);

@@ -188,8 +188,13 @@ compile() {
     build "test of $name compiles" $CC $test_flags -o "$tests/$name" "tests/${name%%-*}.c" "$@"
 }
 
+# What the library makes of the values that every binding has to count alike.
+behaviour() {
+    python3 ../../tests/behaviour/cases.py c >"$tests/cases" && "$tests/behaviour" <"$tests/cases"
+}
+
 test_calls() {
-    for name in calls heads buffers estimates rows registers states counters processors; do
+    for name in behaviour calls heads buffers estimates rows registers states counters processors; do
         compile "$name" "$build/libhll.a"
     done
     compile counter_threads "$build/libhll.a" -pthread
@@ -197,6 +202,11 @@ test_calls() {
     compile refusals "$build/libhll.a" "$wraps"
     compile calls-shared -L"$build" -lhll -Wl,-rpath,"$build"
     find_v3
+    if has python3; then
+        run behaviour behaviour
+    else
+        skip behaviour 'python3, which reads its cases, is not here'
+    fi
     run_each calls "$tests/calls"
     run_each 'calls, shared library' "$tests/calls-shared"
     run_each heads "$tests/heads"

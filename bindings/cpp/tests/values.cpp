@@ -1,5 +1,6 @@
 // SPDX-License-Identifier: Apache-2.0
-// What values are hashed as, arguments that are refused, equality and text, and objects that were moved from.
+// Values that the cases of tests/behaviour can't write, arguments that are refused, equality and text, and objects that were
+// moved from.
 #include "test.hpp"
 
 #include <algorithm>
@@ -27,47 +28,19 @@ static uint32_t coupon_of_number(uint64_t number)
     return hll_coupon(reinterpret_cast<const uint8_t *>(bytes.data()), 8);
 }
 
-static void test_integers()
+// What the cases of tests/behaviour can't write: other NaNs, and no bytes at all.
+static void test_odd_values()
 {
-    CHECK(coupon_of(7) == coupon_of_number(7) && coupon_of(uint64_t(7)) == coupon_of_number(7));
-    CHECK(coupon_of(int8_t(-1)) == coupon_of_number(~UINT64_C(0)) && coupon_of(int16_t(-1)) == coupon_of(-1));
-    CHECK(coupon_of(int64_t(-1)) == coupon_of(-1L) && coupon_of(std::numeric_limits<uint64_t>::max()) == coupon_of(-1));
-    CHECK(coupon_of(uint8_t(255)) == coupon_of_number(255) && coupon_of(uint16_t(65535)) == coupon_of_number(65535));
-    CHECK(coupon_of(uint32_t(0xffffffff)) == coupon_of_number(0xffffffff));
-    CHECK(coupon_of(std::numeric_limits<int64_t>::min()) == coupon_of_number(UINT64_C(1) << 63));
-    CHECK(coupon_of(true) == coupon_of_number(1) && coupon_of(false) == coupon_of_number(0) &&
-          coupon_of('a') == coupon_of_number(97));
-}
-
-static void test_reals()
-{
-    CHECK(coupon_of(1.0) == coupon_of_number(UINT64_C(0x3ff0000000000000)) && coupon_of(1.0f) == coupon_of(1.0));
-    CHECK(coupon_of(-2.5) == coupon_of_number(UINT64_C(0xc004000000000000)));
-    CHECK(coupon_of(-0.0) == coupon_of_number(0) && coupon_of(-0.0f) == coupon_of_number(0));
-    CHECK(coupon_of(std::numeric_limits<double>::infinity()) == coupon_of_number(UINT64_C(0x7ff0000000000000)));
-    CHECK(coupon_of(std::numeric_limits<double>::denorm_min()) == coupon_of_number(1));
     const uint64_t one_nan = UINT64_C(0x7ff8000000000000), odd_nan = UINT64_C(0xfff0000000000001);
     double odd;
     std::memcpy(&odd, &odd_nan, sizeof odd);
-    CHECK(coupon_of(std::numeric_limits<double>::quiet_NaN()) == coupon_of_number(one_nan) &&
-          coupon_of(odd) == coupon_of_number(one_nan));
-    CHECK(coupon_of(-std::numeric_limits<float>::quiet_NaN()) == coupon_of_number(one_nan));
-}
-
-static void test_texts()
-{
-    CHECK(coupon_of(std::string("ann")) == 0x046011f8 &&
-          coupon_of("ann") == 0x046011f8); // docs/FORMAT.md has this number
-    CHECK(coupon_of(std::string()) == hll_coupon(nullptr, 0) && coupon_of("") == coupon_of(std::string()));
-    CHECK(coupon_of(std::string("a\0b", 3)) == hll_coupon(reinterpret_cast<const uint8_t *>("a\0b"), 3));
-#if __cplusplus >= 201703L
-    CHECK(coupon_of(std::string_view("annbob", 3)) == 0x046011f8 && coupon_of(std::string_view()) == coupon_of(""));
-#endif
+    CHECK(coupon_of(odd) == coupon_of_number(one_nan) &&
+          coupon_of(-std::numeric_limits<float>::quiet_NaN()) == coupon_of(odd));
+    CHECK(coupon_of(-0.0f) == coupon_of_number(0));
     sketch one(10), other(10);
-    one.update("ann", 3);
     one.update(nullptr, 0);
-    other.update_many(std::vector<std::string>{"ann", ""});
-    CHECK(one == other && one.estimate() > 1.99);
+    other.update("");
+    CHECK(one == other && one.estimate() > 0.99);
 }
 
 // Many values at once are those values one by one.
@@ -270,8 +243,7 @@ static void test_arguments()
     CHECK(throws<std::invalid_argument>([&] { one.update_coupons(nullptr, 3); }, "null pointer"));
     CHECK(throws<std::invalid_argument>([&] { one.update(static_cast<const char *>(nullptr)); }, "null pointer"));
     CHECK(throws<std::invalid_argument>([&] { one.update(nullptr, 7); }, "size of 7"));
-    CHECK(
-        throws<std::invalid_argument>([&] { one.update_many(static_cast<const int *>(nullptr), 7); }, "null pointer"));
+    CHECK(throws<std::invalid_argument>([&] { one.update_many(static_cast<const int *>(nullptr), 7); }, "null pointer"));
     CHECK(throws<std::invalid_argument>([&] { sketch::deserialize(nullptr, 7); }, "null pointer"));
     CHECK(throws<std::invalid_argument>([&] { union_(12).update_image(nullptr, 7); }, "null pointer"));
     CHECK(throws<std::invalid_argument>([&] { union_(12).update_images(nullptr, 7); }, "null pointer"));
@@ -367,9 +339,7 @@ static void test_moved_from()
 
 int main()
 {
-    test_integers();
-    test_reals();
-    test_texts();
+    test_odd_values();
     test_all_many();
     test_lists();
     test_images();

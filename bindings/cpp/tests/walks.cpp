@@ -148,6 +148,17 @@ static void walk()
 
 // ---- unions
 
+// The reason for which a call rejects an image, if it does.
+template <class Call> static std::string refused_as(Call call)
+{
+    try {
+        call();
+    } catch (const hll::image_error &error) {
+        return error.reason();
+    }
+    return "";
+}
+
 static void update_in_some_way(union_ &all, const pair &p)
 {
     switch (below(4)) {
@@ -161,9 +172,11 @@ static void update_in_some_way(union_ &all, const pair &p)
         all.update_image(p.made.serialize());
         break;
     default:
-        image_bytes followed = p.image; // by bytes that are not read
+        image_bytes followed = p.image;
         followed.insert(followed.end(), 9, 0xff);
-        all.update_image(followed.data(), followed.size());
+        CHECK(refused_as([&] { all.update_image(followed); }) == "trailing");
+        CHECK(refused_as([&] { sketch::deserialize(followed); }) == "trailing");
+        all.update(sketch::deserialize_first(followed.data(), followed.size()));
     }
 }
 
@@ -174,13 +187,18 @@ static void update_at_once(union_ all, const std::vector<image_bytes> &images, c
     std::vector<image_bytes> bad(images);
     const size_t at = below(static_cast<unsigned>(images.size()));
     bad[at].resize(7);
-    try {
-        all.update_images(bad);
-        CHECK(false);
-    } catch (const hll::image_error &error) {
-        CHECK(error.index() == at && error.status() == HLL_TRUNCATED);
-        CHECK(std::string(error.what()).find("image " + std::to_string(at) + ": these 7 bytes") == 0);
-    }
+    std::vector<image_bytes> more(images);
+    more[at].push_back(0);
+    for (const std::vector<image_bytes> &one : {bad, more})
+        try {
+            all.update_images(one);
+            CHECK(false);
+        } catch (const hll::image_error &error) {
+            CHECK(error.index() == at && error.status() == (one == bad ? HLL_TRUNCATED : HLL_TRAILING));
+            CHECK(std::string(error.what())
+                      .find("image " + std::to_string(at) + ": these " + std::to_string(one[at].size()) +
+                            " bytes are not the image") == 0);
+        }
     CHECK(all.result() == before);
     all.update_images(images);
     CHECK(all.result() == wanted);
@@ -284,7 +302,9 @@ static std::vector<image_bytes> honest_images()
 // Bytes are read as plain calls read them, or refused for the same reason; and then nothing has changed.
 static void expect_as_plain(const image_bytes &bytes, size_t size, union_ &all)
 {
-    const hll_status status = hll_image_check(bytes.data(), size);
+    hll_status status = hll_image_check(bytes.data(), size);
+    if (status == HLL_OK && hll::detail::trailing({bytes.data(), size}) != 0)
+        status = HLL_TRAILING;
     const image_bytes before = all.result().serialize();
     if (status == HLL_OK) {
         const image_bytes exact(bytes.begin(), bytes.begin() + static_cast<std::ptrdiff_t>(size));

@@ -26,12 +26,6 @@ const rowsOf = (rows) => el("table", {}, el("tbody", {}, rows.filter(Boolean).ma
 
 const hexOf = (bytes) => Array.from(bytes, (byte) => byte.toString(16).padStart(2, "0")).join("");
 
-function base64Of(bytes) {
-  let text = "";
-  for (let at = 0; at < bytes.length; at += 32768) text += String.fromCharCode(...bytes.subarray(at, at + 32768));
-  return btoa(text);
-}
-
 function ofHex(text) {
   const digits = text.replace(/^(0x|\\x|\\\\x|x')/i, "").replace(/'$/, "");
   if (digits.length % 2 !== 0 || !/^[0-9a-f]+$/i.test(digits)) return null;
@@ -42,7 +36,7 @@ function ofHex(text) {
 
 function ofBase64(text) {
   try {
-    return Uint8Array.from(atob(text.replace(/-/g, "+").replace(/_/g, "/").replace(/=+$/, "")), (c) => c.charCodeAt(0));
+    return bytesOfBase64(text.replace(/-/g, "+").replace(/_/g, "/").replace(/=+$/, ""));
   } catch {
     return null;
   }

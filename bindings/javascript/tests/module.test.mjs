@@ -94,7 +94,11 @@ test("unions", () => {
 test("images", () => {
   const s = new Sketch(10, 4).addMany(Array.from({ length: 3000 }, (_, i) => i)), image = s.toBytes();
   assert.equal(image.length, sizeOf(image));
-  const back = Sketch.fromBytes(Buffer.concat([image, Buffer.from("more")]));
+  const back = Sketch.fromBytes(image), more = Buffer.concat([image, Buffer.from("more")]);
+  assert.equal(fault(more), "trailing");
+  for (const call of [Sketch.fromBytes, (bytes) => new Union().add(bytes), (bytes) => Sketch.fromBase64(Buffer.from(bytes).toString("base64"))])
+    assert.throws(() => call(more), (why) => rejects("trailing")(why) && why.message === `Bytes follow the image, which takes ${image.length} bytes of ${more.length}.`);
+  assert.equal(fault(of("0201070a03040008" + "00".repeat(32))), null); // an empty list with its buckets
   assert.deepEqual(back.toBytes(), image);
   assert.deepEqual([back.lgK, back.width, back.stage, back.isEmpty, back.estimate()], [10, 4, "registers", false, s.estimate()]);
   assert.equal(histogramOf(image).reduce((x, y) => x + y), 1024);
@@ -115,6 +119,24 @@ test("images", () => {
   const copy = back.copy().add("x").add("y").add("z");
   assert.deepEqual(back.toBytes(), image);
   assert.ok(copy.estimate() >= back.estimate());
+});
+
+test("JSON, and what can't be copied", () => {
+  const s = new Sketch(12).addMany(["ann", "bob"]), u = new Union().add(s), r = new Registers(12).addMany(["ann", "bob"]), text = "AgEHDAMIAgj4EWAEvyBkHA==";
+  assert.equal(JSON.stringify({ s, u }), `{"s":"${text}","u":"${text}"}`);
+  assert.equal(hex(Sketch.fromBase64(JSON.parse(JSON.stringify([r]))[0]).toBytes()), hex(r.toBytes()));
+  for (const lgK of [4, 12, 21]) for (const width of [4, 6, 8]) for (const n of [0, 1, 2, 300, 60000]) {
+    const one = new Sketch(lgK, width).addMany(Int32Array.from({ length: n }, (_, i) => i)), image = one.toBytes();
+    assert.equal(one.toBase64(), Buffer.from(image).toString("base64"));
+    assert.deepEqual(Sketch.fromBase64(one.toBase64()).toBytes(), image);
+    assert.deepEqual(Sketch.fromBase64(one.toBase64(8)).toBytes(), one.toBytes(8));
+  }
+  for (const [bad, reason] of [["ann!", "argument"], ["", "truncated"], [text.replace("EH", "EK"), "family"], [text.slice(0, -4), "truncated"], [text.replace("==", "AA"), "trailing"]])
+    assert.throws(() => Sketch.fromBase64(bad), rejects(reason), bad);
+  for (const bad of [null, undefined, s, s.toBytes()]) assert.throws(() => Sketch.fromBase64(bad), TypeError);
+  for (const it of [s, u, r, Sketch.fromBase64(text), { deep: [s] }])
+    for (const copy of [structuredClone, (value) => new MessageChannel().port1.postMessage(value)]) assert.throws(() => copy(it), { name: "DataCloneError" });
+  assert.throws(() => { s.toJSON = null; }, TypeError);
 });
 
 test("words and sentences of statuses are those of hll.h", () => {
@@ -148,10 +170,15 @@ test("arguments", () => {
   assert.throws(() => new Sketch().bounds(4), rejects("argument"));
   assert.throws(() => new Sketch().add(2n ** 64n), RangeError);
   assert.throws(() => Sketch.fromBytes("0201070a030c0008"), TypeError);
-  assert.throws(() => new Union({ lgMaxK: 3 }), rejects("argument"));
+  for (const options of [3, 22, NaN, { lgMaxK: 3 }]) assert.throws(() => new Union(options), rejects("argument"));
+  const fine = new Sketch(14).addMany(Array.from({ length: 9000 }, (_, i) => i));
+  assert.deepEqual(new Union(12).add(fine).toBytes(), new Union({ lgMaxK: 12 }).add(fine).toBytes());
+  assert.throws(() => new Union({ lgmaxk: 12 }), new TypeError("the option lgmaxk is unknown; the options are lgMaxK and width"));
+  assert.throws(() => isSmall(fine.toBytes(), { maxlgk: 14 }), new TypeError("the option maxlgk is unknown; the options are maxLgK and maxBytes"));
+  for (const options of ["12", 12n, true, null, fine, [12]]) assert.throws(() => new Union(options), TypeError);
   assert.throws(() => new Sketch(12).merge(new Sketch(12).add(1), 3), rejects("argument"));
   assert.equal(version, "0.2.0");
-  assert.equal(REASONS.length, 17);
+  assert.equal(REASONS.length, 18);
 });
 
 test("a memory that grows during a call", async () => {
@@ -259,11 +286,13 @@ test("heads, of whole images and of their first bytes", () => {
 test("small images, and what was freed", () => {
   const image = new Sketch(12).addMany(Array.from({ length: 9000 }, (_, i) => i)).toBytes();
   assert.deepEqual([isSmall(image), isSmall(image, { maxLgK: 11 }), isSmall(image, { maxBytes: 4000 }), isSmall(of("0201"))], [true, false, false, true]);
-  const s = new Sketch(12).add(1), u = new Union().add(s);
-  s.free();
-  s.free();
-  u.free();
-  for (const call of [() => s.add(2), () => s.estimate(), () => s.toBytes(), () => u.add(image), () => u.toBytes()]) assert.throws(call, TypeError);
+  for (const s of [new Sketch(12).add(1), Sketch.fromBytes(image), new Union().add(image)]) {
+    s.free();
+    s.free();
+    for (const call of [() => s.add(image), () => s.estimate(), () => s.toBytes(), () => s.lgK, () => s.isEmpty, () => s.toBase64(), () => JSON.stringify([s]), () => new Union().add(s), () => new Union({ width: 8 }).add(s)])
+      assert.throws(call, new TypeError("the sketch was freed"));
+    if (s instanceof Sketch) for (const call of [() => s.stage, () => s.copy(), () => s.merge(image), () => s.addMany([1])]) assert.throws(call, new TypeError("the sketch was freed"));
+  }
 });
 
 test("after a trap the module is not used any more, and another one is", async () => {

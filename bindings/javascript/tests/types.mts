@@ -4,13 +4,14 @@ import { Estimation, Head, HllError, Info, Module, REASONS, Real, Reason, Regist
 
 const sketch: Sketch = new Sketch(12, 4).add("a").add(1).add(1n).add(true).add(new Real(7)).add(new Uint8Array(3)).add(null).addMany(["a", 1, undefined]).addMany(new Float64Array(3)).addMany(new Set([1n]));
 const union: Union = new Union({ lgMaxK: 12, width: 6 }).add(sketch).add(sketch.toBytes()).add(new ArrayBuffer(8)).add(new Registers(12));
+const bounded: Union = new Union(12).add(Sketch.fromBase64(sketch.toBase64(4)));
 const registers: Registers = new Registers(new Uint8Array(16)).add("a").addMany([1, 2]).merge(sketch).merge(union).fold(4);
 const found: Estimation = union.estimation(), bounds: [number, number] = sketch.merge(union, 12).bounds(3);
 const info: Info = infoOf(sketch.toBytes(8)), width: Width = info.width, why: Reason | null = fault(union.toBytes()), hip: Estimation | null = hipOf(sketch.copy().toBytes());
 const head: Head = headOf(sketch.toBytes());
 const numbers: number[] = [sketch.lgK, head.size, head.width, union.lgK, found.estimate, bounds[0], couponOf("a"), sizeOf(union.toSketch().toBytes()), ...histogramOf(registers.toBytes()), ...registers.histogram(), registers.array.length, width];
 const truths: boolean[] = [isSmall(union.toBytes(), { maxLgK: 14 }), agree(union.toBytes(), sketch.toBytes()), sketch.isEmpty, union.isEmpty];
-const words: string[] = [version, sketch.stage, ...REASONS, why ?? "", String(hip)];
+const words: string[] = [version, bounded.toJSON(), sketch.toJSON(), registers.toJSON(), union.toBase64(8), registers.toBase64(6), sketch.stage, ...REASONS, why ?? "", String(hip)];
 const other: Promise<Module> = load();
 try {
   Sketch.fromBytes(new Uint8Array(0));
@@ -30,4 +31,6 @@ union.add("0201");
 sketch.bounds(4);
 // @ts-expect-error
 sketch.lgK = 3;
+// @ts-expect-error
+new Union({ lgmaxk: 12 });
 export { numbers, truths, words, other };

@@ -9,6 +9,7 @@ CALL(hll_image_head, (at image, at len, at head), (TO(uint8_t, image), len, TO(h
 CALL(hll_image_info, (at image, at len, at info), (TO(uint8_t, image), len, TO(hll_info, info), sizeof(hll_info)))
 CALL(hll_image_check, (at image, at len), (TO(uint8_t, image), len))
 CALL(hll_image_size, (at bytes, at len, at size), (TO(uint8_t, bytes), len, TO(size_t, size)))
+CALL(hll_image_trailing, (at bytes, at len, at more), (TO(uint8_t, bytes), len, TO(size_t, more)))
 CALL(hll_image_histogram, (at image, at len, at histogram), (TO(uint8_t, image), len, TO(hll_histogram, histogram)))
 CALL(hll_image_new, (at lg_k, at width, at out, at room, at size), (lg_k, width, TO(uint8_t, out), room, TO(size_t, size)))
 CALL(hll_image_add, (at image, at len, at values, at values_len, at ends, at n, at out, at room, at size), (TO(uint8_t, image), len, TO(uint8_t, values), values_len, TO(size_t, ends), n, TO(uint8_t, out), room, TO(size_t, size)))

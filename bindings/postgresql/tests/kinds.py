@@ -1,13 +1,18 @@
 # SPDX-License-Identifier: Apache-2.0
 """Values of each type, beside the bytes that docs/FORMAT.md says ("What values are hashed as") and its hash."""
 import datetime
+import decimal
+import itertools
 import random
 import re
 import struct
+import sys
 import uuid
 
+from behaviour.cases import cases
 from images import image_of_values
 from report import DATATYPE, SEED, bytes_of, check, equal, refused, skip
+from server import HERE
 from unions import settings
 
 AGGREGATES = "hll_image_add_agg", "hyperloglog_agg"
@@ -69,8 +74,30 @@ def array_of(kind, texts):
     return "CAST(ARRAY[%s] AS %s[])" % (", ".join("'%s'" % text for text in texts), kind)
 
 
+# A value of tests/behaviour as SQL, by its type.
+SQL = {
+    "text": lambda it: "convert_from('\\x%s'::bytea, 'UTF8')" % it.hex(), "bytes": lambda it: "'\\x%s'::bytea" % it.hex(), "integer": str,
+    "real": "'%s'::float8".__mod__, "single": "'%s'::float4".__mod__, "boolean": "%s::boolean".__mod__, "date": "date '%s'".__mod__,
+    "time": "timestamptz '%s+00'".__mod__, "uuid": lambda it: "'%s'::uuid" % it.hex(), "decimal": "'%s'::numeric".__mod__,
+    "list": "'[%s]'::jsonb".__mod__, "missing": lambda it: "NULL::text",
+}
+
+
+def behaviour(server):
+    """The cases of tests/behaviour, which every binding runs."""
+    for kind, written, wanted in cases("postgresql"):
+        query = "SELECT hyperloglog_agg(%s)" % SQL[kind](written)
+        if wanted == "rejected":
+            refused("%s %s" % (kind, written), server.run(query + ";"), DATATYPE)
+            continue
+        found = server.ask(query)
+        kept = int.from_bytes(bytes_of(found)[8:], "little") if found else "missing"
+        equal("%s %r" % (kind, written), kept, wanted)
+
+
 def kinds_of_values(server):
     """One value, a few and many of each type, by each aggregate."""
+    behaviour(server)
     for kind, values in kinds():
         for some, lg_k, width in ((values, 11, 6), (values[:5], 12, 8), (values[-3:], 10, 4)):
             wanted = image_of_values(lg_k, width, [value for _, value in some])
@@ -121,17 +148,124 @@ def refused_kinds(server):
             for kind, value in OTHERS.items():
                 said = server.run("SELECT %s(%s);" % (name, arguments % value))
                 refused("%s of %s" % (name, kind), said, DATATYPE, "values of type %s cannot be counted" % kind)
-                check("a cast for " + kind, "CAST(value AS text)" in said, said)
             said = server.run("SELECT %s(%s);" % (name, arguments % "hyperloglog_empty()"))
             refused("%s of sketches" % name, said, DATATYPE, "sketches are not counted as values")
         said = server.run("SELECT %s(v) FROM unnest(ARRAY[NULL]::numeric[]) v;" % name)
         refused("%s of a numeric that is NULL" % name, said, DATATYPE)
     found = server.ask("SELECT hyperloglog_agg(v) IS NULL FROM unnest(ARRAY[]::numeric[]) v")
     equal("no numeric", found, "t")
+    hints(server)
+    as_in_python(server)
     if server.run("CREATE EXTENSION citext;"):
         skip("citext", "it is not here")
         return
     refused_texts(server)
+
+
+# ---- what to count instead
+
+# Values of the types in README.md's table, and of elements of arrays, in several spellings: # is a digit of 0 to 3, and ? of 0 to 1.
+SPELLINGS = {
+    "numeric": "#.#|#.#0|-#.#000|#e#|#00.00|##e-1|0.000#|.000#00|NaN|Infinity|-inf|-0.0|+0#|1####.##############0#0",
+    "interval": "# mon #0 days|-# mon ## days|# mon -#0 days ## hours|##0 days|##00 hours|-1 mon 2#:0#:00.#|2 mon -0#:00:00|1 year|360 days -0#:##|-30 days 24 hours",
+    "numrange": "[#,1#)|[#.0,1#.00)|(#,1#.0]|[#.0,)|(,#.00]|(,#]|empty|[1.0,1)|[#,Infinity]",
+    "time": "0#:1#|0#:1#:00|0#:1#:00.000|0#:1#:#0.#|0#:1#:#0.#00|24:00|00:00", "timetz": "0#:1#+0#|0#:1#:00+0#|0#:1#:00.0+0#:00|0#:1#:#0.#-0#:30",
+    "bit": "????|B????|x#", "varbit": "?|B?|????|B????|x#|????????|x##", "money": "#|#.00|$#.#|$#.#0|-#.##|(#.##)|-$#|#,#00",
+    "inet": "10.0.#.#|10.0.#.#/32|10.0.#.#/24|::#|::000#|0:0::#/128|::ffff:10.0.0.#|::FFFF:a00:#", "cidr": "10.#|10.#.0.0/16|10.#.0/24|10.#/16|::#|::000#/128|10.#.#.#",
+    "macaddr": "08:00:2b:01:0#:0#|08-00-2B-01-0#-0#|08002b:010#0#", "macaddr8": "08:00:2b:ff:fe:01:0#:0#|08-00-2B-FF-FE-01-0#-0#|08:00:2b:01:0#:0#",
+    "oid": "##|0##|00##", "xid": "1##| 1##", "xid8": "1##| 1##", "cid": "1##| 1##", "tid": "(#,#)|(0#,00#)", "pg_lsn": "#/#a|0#/#A|00#/000#A", "reg": "1###|01###|0##",
+    "tsvector": "b#:1#|b#:1#A a|a b#:1#a|b#|'b#' a|a:1 b#:2,1#|a:1 b#:1#D,2|", "int4range": "[#,1#)|(#,1#]|[#,1#]|(#,)|[#,)|(,#)|empty|(1#,2#)|[1,1)", "int8range": "[#,1#)|(#,1#]|(,#)|[1,1)",
+    "daterange": "[2026-01-1#,2026-02-1#)|(2026-01-1#,2026-02-1#]|[20260111,2026-2-1#]|(,2026-01-1#)|[-infinity,2026-01-1#)|[2026-01-1#,infinity]",
+    "tsrange": "[2026-01-1#,2026-02-1#)|[2026-01-1# 00:00,20260211 0:00)|[2026-01-1# 00:00,20260211 #:0#]|(,2026-01-1# 00:00:00.0)|(2026-01-1#,infinity]|empty",
+    "tstzrange": "[2026-01-1# 0#:00+00,2026-02-1#)|[2026-01-1# 1#:00+1#,2026-02-1# 00:00+0#)|(,2026-01-1# 00:00:00.0-0#)|empty",
+    "hue": "red|green", "text": "a#|{#,}|NULL|\\#|\"#", "varchar": "a#|a #| a", "name": "a#|A#", '"char"': "#|a|{|\\", "bytea": "\\x0#|\\x0#0?|\\00#", "int2": "#|0#|-#",
+    "int4": "#|0#|-#", "int8": "#|0#|-#", "bool": "t|yes|1|f|off", "date": "2026-01-1#|2026011#|infinity", "timestamp": "2026-01-1# 0#:00|2026011# 0#00|2026-01-1#",
+    "timestamptz": "2026-01-1# 0#:00+0#|2026-01-1# 1#:00+1#", "uuid": "0000000000000000000000000000000#|{00000000-0000-0000-0000-00000000000#}"}
+FORM, GENERIC = "Count %s, which is the same text for equal values.", "Equal values of this type can have different texts, so count a part of the value"
+
+
+def forms_shown():
+    """The table of README.md: types, and what to count instead of their values."""
+    table = re.search(r"^\| type \| count \|\n\|---\|---\|\n((?:\|.*\n)*)", (HERE / "README.md").read_text().replace("enums", "`hue`"), re.M)[1]
+    rows = [(re.findall("`([^`]+)`", types), form.strip("`")) for types, form in (row.strip("| ").split(" | ") for row in table.splitlines())]
+    rows[-1] = [name + "[]" for name in rows[-2][0] + rows[-1][0]], rows[-1][1]
+    return {name: form for names, form in rows for name in names}
+
+
+def templates(kind):
+    """The spellings of a type, or of what has its values inside."""
+    name = kind.replace("multi", "")
+    if kind.endswith("[]"):
+        some = ['"%s"' % re.sub(r'(["\\])', r"\\\1", one) for one in templates(kind[:-2])]
+        return ["{}", "{NULL}"] + [form.replace("$", one) for one in some for form in ("{$}", "{ $ }", "[1:1]={$}", "[0:0]={$}", "{{$},{$}}", "{$,NULL}", "{{$,$}}")]
+    if name != kind:
+        return ["{%s}" % ",".join(some) for count in range(3) for some in itertools.product(templates(name), repeat=count)]
+    return SPELLINGS["reg" if kind.startswith("reg") else kind].split("|")
+
+
+def spelled(numbers, template):
+    return "".join(numbers.choice({"#": "0123", "?": "01"}.get(one, one)) for one in template)
+
+
+def hints(server):
+    """The HINT of each type is that of README.md's table, and for 10,000 values what it says to count is one text for equal values only."""
+    server.ask("CREATE TYPE hue AS ENUM ('red', 'green'); CREATE DOMAIN price AS numeric(9, 2); CREATE DOMAIN spans AS interval; CREATE DOMAIN prices AS price[]; CREATE DOMAIN ids AS int8[]")
+    shown = forms_shown()
+    names = dict(line.split("|") for line in server.ask("SELECT x::regtype, x FROM unnest('{%s}'::text[]) x" % ",".join(name.replace('"', '\\"') for name in shown)).split("\n"))
+    all_types = server.ask("SELECT oid::regtype FROM pg_type WHERE typtype IN ('b', 'r', 'm') AND typnamespace = 'pg_catalog'::regnamespace AND typname !~ '(int2|oid)vector|pg_node_tree'")
+    said = server.run("".join("SELECT hyperloglog_agg(NULL::%s);\n" % name for name in all_types.split("\n") + ["hue", "hue[]"]))
+    given = dict(re.findall("values of type (.*) cannot be counted as they are\nHINT:  (.*)", said))
+    for name, hint in given.items():
+        check("hint of " + name, hint == FORM % shown[names[name]] if name in names else hint.startswith(GENERIC), hint)
+    equal("types of the table without a hint", [name for name in names if name not in given], [])
+    for name, kind in ("price", "numeric"), ("spans", "interval"), ("ids", "int8[]"), ("prices", None), ("record", None):
+        said = server.run("SELECT hyperloglog_agg(NULL::%s);" % name)
+        check("hint of " + name, (FORM % shown[kind] if kind else GENERIC) in said, said)
+    # (lc_monetary needs another locale, which may not be here)
+    for setting, own, other, value in (("IntervalStyle", "postgres", "iso_8601", "interval '1 day'"), ("DateStyle", "ISO", "German", "ARRAY[date '2026-11-01']"),
+                                       ("TimeZone", "UTC", "+5", "ARRAY[timestamptz '2026-11-01 00:00+00']")):
+        found = server.ask("".join("SET %s = '%s'; SELECT hyperloglog_agg((%s)::text);" % (setting, one, value) for one in (own, other, own))).split("\n")
+        equal("texts that depend on " + setting, (found[0] == found[1], found[0] == found[2]), (False, True))
+    numbers = random.Random(SEED + 5)
+    for name, kind in names.items():
+        some = templates(kind)
+        texts = [spelled(numbers, numbers.choice(some)) for _ in range(10000)]
+        found = server.ask("""WITH t AS MATERIALIZED (SELECT value, %s AS form FROM (SELECT x::%s AS value FROM unnest(ARRAY[NULL, %s]) x) x),
+            u AS (SELECT DISTINCT value, form FROM t WHERE value IS NOT NULL)
+            SELECT (SELECT count(*) FROM (SELECT DISTINCT value FROM u) x), count(DISTINCT form), count(*), (SELECT count(form) FROM t), hyperloglog_agg(form) IS NULL
+            FROM u""" % (re.match("Count (.*), which", given[name])[1], {"bit": "bit(4)"}.get(kind, kind.replace("reg", "oid::reg")), ", ".join("'%s'" % text.replace("'", "''") for text in texts)))
+        count = int(found.split("|")[0])
+        equal("values and texts of " + kind, found, "%d|%d|%d|10000|f" % (count, count, count))
+        check("equal values of %s in several spellings" % kind, 1 < count < 10000 and (count < len(set(texts)) or kind == "hue"), (count, len(set(texts))))
+
+
+def as_in_python(server):
+    """What the errors of the Python package say to count instead is what is counted here."""
+    sys.path.insert(0, str(HERE.parent / "python"))
+    from hll_sketches import Sketch
+
+    def counted(values):
+        sketch = Sketch()
+        for value in values:
+            try:
+                sketch.update(value)
+            except TypeError as error:
+                form = re.search("pass (.*), as which", str(error))[1]
+                sketch.update(eval(form, dict(vars(datetime), Context=decimal.Context, Decimal=decimal.Decimal, value=value)))
+        return sketch.to_bytes()
+
+    numbers = random.Random(SEED + 6)
+    zones = [datetime.timezone(datetime.timedelta(minutes=minutes)) for minutes in (0, 330, -720, 1)]
+    times = [time.replace(tzinfo=zone) for time in random_times(numbers, 500) if 1 < time.year < 9999 for zone in zones]
+    times += [time.astimezone(numbers.choice(zones)) for time in times]
+    ids = [uuid.UUID(int=numbers.getrandbits(128)) for _ in range(500)]
+    reals = [spelled(numbers, numbers.choice(templates("numeric"))) for _ in range(2000)] + ["1E+2", "100", "-0.0", "NaN"]
+    reals += ["%d.%030d0" % (numbers.getrandbits(100), numbers.getrandbits(90)) for _ in range(100)]
+    for kind, form, texts, values in (
+            ("numeric", "trim_scale(v)::text", reals, map(decimal.Decimal, reals)), ("timestamptz", "v", map(str, times), times), ("uuid", "v", map(str, ids), ids),
+            ("timestamp", "v", (str(time.replace(tzinfo=None)) for time in times), (time.replace(tzinfo=None) for time in times))):
+        found = server.ask("SELECT hyperloglog_agg(%s) FROM unnest(%s) v" % (form, array_of(kind, texts)))
+        equal("values of %s in Python" % kind, bytes_of(found), counted(values))
 
 
 PEOPLE = """CREATE COLLATION IF NOT EXISTS ignores_case (provider = icu, locale = 'und-u-ks-level2', deterministic = false);
@@ -150,8 +284,8 @@ def refused_texts(server):
         for value, kind in ("name", "citext"), ("nick", "nickname"), ("coalesce(name, nick)", "citext"):
             said = server.run("SELECT %s FROM people;" % (call % value))
             refused("%s of a %s" % (call, kind), said, DATATYPE, "values of type %s cannot be counted" % kind)
-            check("a cast for " + kind, "CAST(value AS text)" in said, said)
-        for value in "under", "plain COLLATE ignores_case":
+            check("a cast for " + kind, "with CAST(value AS text), or a form that equal values share, for example lower(value)." in said, said)
+        for value in "under", "plain COLLATE ignores_case", "ARRAY[under]::text":
             said = server.run("SELECT %s FROM people;" % (call % value))
             refused("%s of %s" % (call, value), said, "42P21", "texts under the nondeterministic collation \"ignores_case\" cannot be counted")
             check("a cast for a collation", 'CAST(value AS text) COLLATE "C"' in said, said)
@@ -234,7 +368,7 @@ def both_casts(server, presorts):
     if presorts:
         said = server.run("SELECT %s FROM people;" % (calls % (NICKS, cast)))
         refused("cast in this call, and sorted below", said, DATATYPE, "values of type citext")
-        check("where the cast is missing", "CAST(value AS text), everywhere in the query." in said, said)
+        check("where the cast is missing", "lower(value), everywhere in the query." in said, said)
     server.ask("CREATE INDEX cast_nicks ON people (name, nick, (%s::text))" % NICKS)
     server.ask("VACUUM people")
     plan = server.run(INDEX + "EXPLAIN SELECT hyperloglog_agg(%s) FROM people;" % NICKS)

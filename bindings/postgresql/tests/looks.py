@@ -135,7 +135,7 @@ def in_workers(server, slow):
 def calls_of_library():
     """The calls of these files that read an image, by the names of their parameters in hll.h. A head is read at once."""
     header = (HERE.parent / "c" / "hll.h").read_text()
-    reading = set(re.findall(r"^hll_status (hll_\w+)\([^;]*?const uint8_t \*(?:image|left|bytes|images)\b", header, re.M)) - {"hll_image_head"}
+    reading = set(re.findall(r"^hll_status (hll_\w+)\([^;]*?const uint8_t \*(?:image|left|bytes|images)\b", header, re.M)) - {"hll_image_head", "hll_image_trailing"}
     used = set(re.findall(r"\bhll_\w+(?=\()", "".join(path.read_text() for path in HERE.glob("*.c"))))
     check("calls that read images", len(reading & used) >= 12, reading & used)
     return sorted(reading & used)

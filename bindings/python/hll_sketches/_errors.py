@@ -21,11 +21,13 @@ _MEANINGS = {
     "register": "a register is above 63, or nibbles and exceptions do not agree",
 }
 # end of what scripts/calls.py writes
+_MEANINGS["trailing"] = "bytes follow the image"
 
 
-def explained(reason: str) -> str:
+def explained(reason: str, sizes: Optional[Tuple[int, int]] = None) -> str:
     """Returns the reason why bytes are not an image, followed by an explanation."""
-    return f"{reason} ({_MEANINGS[reason]})"
+    more = "" if sizes is None else ", which takes {:,} bytes of {:,}".format(*sizes)
+    return f"{reason} ({_MEANINGS[reason]}{more})"
 
 
 class HllError(Exception):
@@ -47,7 +49,8 @@ class ImageError(HllError, ValueError):
     ----------
     reason : str
         The check that fails: ``truncated``, ``family``, ``version``, ``lgk``, ``width``,
-        ``stage``, ``preamble``, ``lgarr``, ``count``, ``coupon`` or ``register``.
+        ``stage``, ``preamble``, ``lgarr``, ``count``, ``coupon`` or ``register``; or ``trailing`` if
+        other bytes follow an image.
     number : int or None
         The index of the image, if several were given.
     place : str or None
@@ -55,23 +58,27 @@ class ImageError(HllError, ValueError):
     """
 
     def __init__(
-        self, reason: str, number: Optional[int] = None, place: Optional[str] = None
+        self,
+        reason: str,
+        number: Optional[int] = None,
+        place: Optional[str] = None,
+        sizes: Optional[Tuple[int, int]] = None,
     ) -> None:
-        super().__init__(reason, number, place)
-        self.reason, self.number, self.place = reason, number, place
+        super().__init__(reason, number, place, sizes)
+        self.reason, self.number, self.place, self._sizes = reason, number, place, sizes
 
     def at(self, number: Optional[int], place: Optional[str] = None) -> ImageError:
         """Return this error with the number or the place of the image."""
-        return ImageError(self.reason, number, place)
+        return ImageError(self.reason, number, place, self._sizes)
 
     def __str__(self) -> str:
         which = "image" if self.number is None else f"image {self.number}"
         if self.place is not None:
             which = f"{shown(self.place)}: image"
-        return f"{which} is rejected: {explained(self.reason)}"
+        return f"{which} is rejected: {explained(self.reason, self._sizes)}"
 
     def __reduce__(self) -> Tuple[type, Tuple[Any, ...]]:
-        return type(self), (self.reason, self.number, self.place)
+        return type(self), (self.reason, self.number, self.place, self._sizes)
 
 
 class PrecisionError(HllError, ValueError):

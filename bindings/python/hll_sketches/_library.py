@@ -33,7 +33,7 @@ else:
     Numbers = array
     Memory = ctypes.Array
 
-OK, REGISTER, ARGUMENT, MEMORY, BUFFER, COARSER, OTHER_LG_K = 0, 11, 12, 13, 14, 15, 16
+OK, REGISTER, ARGUMENT, MEMORY, BUFFER, COARSER, OTHER_LG_K, TRAILING = 0, 11, 12, 13, 14, 15, 16, 17
 MOST_KEPT = 1 << 22
 """A thread keeps at most this many bytes for its next result."""
 
@@ -181,6 +181,7 @@ WORDS = (
     "buffer",
     "coarser",
     "other_lg_k",
+    "trailing",
 )
 _CALLS: Dict[str, Tuple[object, Sequence[object]]] = {
     "hll_version": (c_uint32, []),
@@ -188,6 +189,7 @@ _CALLS: Dict[str, Tuple[object, Sequence[object]]] = {
     "hll_image_head": (c_uint8, [c_char_p, c_size_t, POINTER(Head), c_size_t]),
     "hll_image_info": (c_uint8, [c_char_p, c_size_t, POINTER(Info), c_size_t]),
     "hll_image_check": (c_uint8, [c_char_p, c_size_t]),
+    "hll_image_trailing": (c_uint8, [c_char_p, c_size_t, c_void_p]),
     "hll_image_histogram": (c_uint8, [c_char_p, c_size_t, POINTER(Histogram)]),
     "hll_image_new": (c_uint8, [c_uint, c_uint, c_void_p, c_size_t, c_void_p]),
     "hll_image_add": (
@@ -529,12 +531,27 @@ def info(image: bytes) -> Info:
     return found
 
 
+def trailing(image: bytes) -> int:
+    """Returns how many bytes follow an image."""
+    more = c_size_t()
+    _ensure(_library.hll_image_trailing(image, len(image), byref(more)))
+    return more.value
+
+
 def check(image: bytes) -> int:
-    """Returns the status of the bytes: success or an image error. A failed allocation is raised."""
+    """Returns the status of the bytes: success, an image error, or that other bytes follow an image. A failed allocation is
+    raised."""
     status = _library.hll_image_check(image, len(image))
     if status == MEMORY:
         raise _refusal(status)
-    return status
+    return TRAILING if status == OK and trailing(image) else status
+
+
+def check_end(image: bytes) -> None:
+    """Raises an error for an image that other bytes follow. What is no image is left to the call that reads it."""
+    more = trailing(image)
+    if more and check(image) == TRAILING:
+        raise ImageError(WORDS[TRAILING], sizes=(len(image) - more, len(image)))
 
 
 def histogram(image: bytes) -> List[int]:

@@ -36,7 +36,7 @@ class MissingError(ArgumentError):
 
 def _refusal(number: int, value: object) -> MissingError:
     cure = "pass skip_missing=True to leave missing values out"
-    return MissingError(number, f"value {number:,} is missing ({value!r}): {cure}")
+    return MissingError(number, f"values[{number}] is missing ({value!r}): {cure}")
 
 
 class Missing:

@@ -86,10 +86,11 @@ class State:
         Raises
         ------
         ImageError
-            If the bytes are not an image. Then nothing has changed.
+            If the bytes are not an image, or if other bytes follow it. Then nothing has changed.
         PrecisionError
             If the image has another ``lg_k``, and there is no bound. Then nothing has changed.
         """
+        _library.check_end(image)
         if len(image) > LARGE:
             image = _library.convert(image, _library.width_in(image))
         if not _library.join_counter(self._counter, image):
@@ -102,7 +103,8 @@ class State:
         An error has the ``number`` of the image. The images before it have been merged.
         """
         kinds = _kinds(images)
-        if len(kinds) == 1 and self._join_at_once(images, *kinds.pop()):
+        are_whole = not any(map(_library.trailing, images))
+        if are_whole and len(kinds) == 1 and self._join_at_once(images, *kinds.pop()):
             return
         for number, image in enumerate(images):
             try:

@@ -3,6 +3,7 @@
 from __future__ import annotations
 
 import sys
+import warnings
 from array import array
 from itertools import islice
 from operator import index
@@ -69,17 +70,18 @@ def _bytes_of_other(value: Value) -> bytes:
 _CURES = {
     "NoneType": "leave missing values out",
     "date": "pass its isoformat(), or toordinal() - 719163, as which SQL counts it",
-    "datetime": "pass its isoformat(), or the microseconds since 1970, as which SQL counts it",
-    "Timestamp": "pass its isoformat(), or the microseconds since 1970, as which SQL counts it",
-    "datetime64": "pass its text, or a number of your own (astype)",
+    "datetime": "pass (value - datetime(1970, 1, 1, tzinfo=value.tzinfo and timezone.utc)) // "
+    "timedelta(microseconds=1), as which SQL counts it",
+    "datetime64": "pass value.astype('datetime64[us]').astype('int64'), as which SQL counts it",
     "timedelta": "pass its total_seconds()",
-    "Decimal": "pass its str(), or float() of it",
-    "UUID": "pass its bytes, or its str()",
-    "complex": "pass its str()",
+    "Decimal": "pass format(value.normalize(Context(999999)) or Decimal(), 'f'), as which SQL counts "
+    "trim_scale(value)::text",
+    "UUID": "pass value.bytes, as which SQL counts it",
+    "complex": "pass str(value + 0j)",
     "tuple": "pass one text that has its parts, as JSON does",
     "dict": "pass one text that has its parts, as JSON does",
 }
-"""For types whose values can't be counted: what to do instead."""
+"""For types whose values can't be counted: what to pass instead, which is the same for equal values."""
 
 
 def _wrong_type(value: object) -> TypeError:
@@ -87,7 +89,7 @@ def _wrong_type(value: object) -> TypeError:
     name = type(value).__name__
     is_many = hasattr(value, "__iter__")
     cure = "pass one value, or many to update_many" if is_many else "pass its bytes or its str()"
-    cure = _CURES.get(name, cure)
+    cure = next((_CURES[kind.__name__] for kind in type(value).__mro__ if kind.__name__ in _CURES), cure)
     return TypeError(f"a value is bytes, str, int or float, not {name}: {cure}")
 
 
@@ -115,6 +117,8 @@ def joined(values: List[Any]) -> Batch:
         pieces = values
     else:
         pieces = list(map(bytes_of, values))
+        if {int, str} <= kinds and any(type(one) is str and one.isascii() and one.isdigit() for one in values):
+            warnings.warn("integers and texts of digits are different values: pass all as int, or all as str", stacklevel=5)
     return b"".join(pieces), _library.ends_of(pieces), count
 
 

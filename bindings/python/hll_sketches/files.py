@@ -36,6 +36,8 @@ class FoundName(str):
 
 
 PIECE = 1 << 16
+MORE = _library.HEADER
+"""How many bytes after an image are read: enough to say whether they begin another one."""
 STEP = 4000
 OWN = getattr(os, "O_CLOEXEC", 0) | getattr(os, "O_BINARY", 0)
 """Flags of every file that is opened: programs that are started don't get it, and Windows changes no byte."""
@@ -108,6 +110,10 @@ def _why_no_image(reason: str, data: bytes) -> str:
         return "it is text, the hexadecimal digits of an image (xxd -r -p makes bytes of them)"
     if _is_text(data):
         return "it is text, and not an image"
+    if reason == _library.WORDS[_library.TRAILING]:
+        end = len(data) - _library.trailing(data)
+        what = "another image begins" if _library.head(data[end:]).fault == _library.OK else "bytes that are no image begin"
+        return f"{what} at byte {end:,}, after the image (hll merge - -o FILE merges all images of standard input)"
     if data[2:3] not in (b"", b"\x07"):
         return f"not an image (the family byte is {data[2]}, and not 7)"
     return f"image {explained(reason)}"
@@ -183,13 +189,30 @@ def read_up_to(read: Read, most: int) -> bytes:
 
 
 def read_image(read: Read) -> bytes:
-    """Returns the bytes of an image, maybe followed by a few others. ``read`` returns at most the number
-    of bytes that it is given, and none at the end of the file."""
+    """Returns the bytes of an image, followed by at least one other if there are others. ``read`` returns at
+    most the number of bytes that it is given, and none at the end of the file."""
     data = read_up_to(read, PIECE)
     if len(data) < PIECE:
         return data
-    more = size_of(data) - PIECE
+    more = size_of(data) + MORE - PIECE
     return data + read_up_to(read, more) if more > 0 else data
+
+
+def images_in_stream(read: Read) -> Iterator[bytes]:
+    """Yields the images that follow one another in a stream. If one is none, it is the last."""
+    data = read_up_to(read, PIECE)
+    while data:
+        size = size_of(data)
+        if len(data) < size:
+            data += read_up_to(read, size - len(data))
+        if _library.head(data).fault != _library.OK:
+            size = len(data)
+        elif not _library.trailing(data[:MORE]):
+            size = max(size, min(len(data), MORE))      # an empty list with its buckets
+        yield data[:size]
+        data = data[size:]
+        if len(data) < MORE:
+            data += read_up_to(read, PIECE)
 
 
 def opened_to_read(path: str) -> int:
@@ -238,8 +261,7 @@ def bytes_of_file(name: str) -> bytes:
 
 
 def of_file(name: str, call: Callable[[bytes], T]) -> T:
-    """Returns what a call of the library returns for the image in a file. A few bytes may follow the
-    image.
+    """Returns what a call of the library returns for the image in a file.
 
     Only this call reads the image, as an untrusted image can be slow to read.
 
@@ -257,10 +279,12 @@ def of_bytes(name: str, data: bytes, call: Callable[[bytes], T]) -> T:
     Raises
     ------
     Trouble
-        If the bytes are no image.
+        If the bytes are no image, or if others follow it.
     """
     try:
-        return call(data)
+        result = call(data)
+        _library.check_end(data)
+        return result
     except ImageError as error:
         if data.startswith(ARCHIVE):
             raise Trouble(name, "an archive, and not an image (estimate, merge and check read archives)") from None

@@ -22,7 +22,7 @@ from ._names import shown
 from ._state import BATCH_BYTES, State
 from ._workers import WorkerLost, Workers
 from .archive import MAGIC, entries_of_file, name_of_entry
-from .files import STANDARD, UNUSABLE, Trouble, bytes_of_file, image_trouble
+from .files import STANDARD, UNUSABLE, Trouble, bytes_of_file, image_trouble, images_in_stream, unusable
 from .finding import found
 from .layout import is_empty
 from .progress import Bar
@@ -78,6 +78,18 @@ class OtherLgK(Trouble):
         self.args = name, error, before     # for the process that raises it again
 
 
+def _images_of_standard() -> Iterator[Tuple[str, bytes]]:
+    """Yields the images that follow one another on standard input, with their names."""
+    try:
+        for number, image in enumerate(images_in_stream(partial(os.read, 0)), 1):
+            if image.startswith(MAGIC):
+                for _ in entries_of_file(STANDARD):     # which says that it has to be a file
+                    pass
+            yield STANDARD if number == 1 else f"{STANDARD} (image {number:,})", image
+    except OSError as error:
+        raise unusable(STANDARD, error) from None
+
+
 class _Files:
     """The union of files, a batch of bounded size at a time."""
 
@@ -90,7 +102,7 @@ class _Files:
         self._bytes = 0
 
     def take(self, name: str) -> None:
-        """Reads a file into the batch, or all images of an archive."""
+        """Reads a file into the batch, or all images of an archive or of standard input."""
         for which, image in self._images_of(name):
             self._take_image(which, image)
 
@@ -98,6 +110,8 @@ class _Files:
         """Returns the image of a file, or the images of an archive once all of it is found to be in order,
         with their names; none for a file that can't be read."""
         try:
+            if name == STANDARD:
+                return list(_images_of_standard())
             image = bytes_of_file(name)
             if not image.startswith(MAGIC):
                 return [(name, image)]

@@ -10,7 +10,7 @@ from ._errors import ArgumentError, PrecisionError
 from ._locks import Lock
 from ._missing import Missing
 from ._values import Value, batches, bytes_of
-from .sketch import Sketch, checked_deviations, checked_lg_k, checked_width, data_in
+from .sketch import Sketch, checked_deviations, checked_lg_k, checked_width, image_in
 
 _R = TypeVar("_R", bound="Registers")
 
@@ -118,7 +118,7 @@ class Registers:
         Raises
         ------
         ImageError
-            If bytes are not an image.
+            If bytes are not an image, or more than one.
         PrecisionError
             If the other sketch has fewer registers, and they are not all 0. The error has the
             ``lg_k`` of that sketch. To merge anyway, first ``fold`` these registers to it.
@@ -128,7 +128,8 @@ class Registers:
             with self._lock:
                 fewer = _library.merge_registers(self._place, _library.place_of(copied))
         else:
-            image = other.to_bytes() if isinstance(other, Sketch) else data_in(other)
+            image = image_in(other)
+            _library.check_end(image)
             with self._lock:
                 fewer = _library.merge_image(self._place, image)
         if fewer is not None:

@@ -73,30 +73,29 @@ def data_in(source: Buffer) -> bytes:
 
 
 def image_in(source: Union["Sketch", Buffer]) -> bytes:
-    """Returns the image of a sketch, or bytes that may be one."""
+    """Returns the image of a sketch, or bytes that may be one. Whoever merges them looks for bytes after it."""
     return source.to_bytes() if isinstance(source, Sketch) else data_in(source)
 
 
 def fault_of(data: Buffer) -> Optional[str]:
-    """Return why bytes do not begin with the image of a sketch.
+    """Return why bytes are not the image of a sketch.
 
     Parameters
     ----------
     data : bytes, or an object that shares its bytes
-        Bytes after the image are not read.
+        The bytes.
 
     Returns
     -------
     str or None
-        The first check that fails, as in ``ImageError.reason``, or None if the bytes begin with an
-        image.
+        The first check that fails, as in ``ImageError.reason``, or None if the bytes are an image.
     """
     status = _library.check(data_in(data))
     return None if status == _library.OK else _library.WORDS[status]
 
 
 def is_image(data: Buffer) -> bool:
-    """Return whether bytes begin with the image of a sketch; ``fault_of`` says why they don't."""
+    """Return whether bytes are the image of a sketch; ``fault_of`` says why they aren't."""
     return fault_of(data) is None
 
 
@@ -176,15 +175,17 @@ class Sketch:
         Parameters
         ----------
         image : bytes, or an object that shares its bytes
-            The image. Bytes after it are not read.
+            The image.
 
         Raises
         ------
         ImageError
-            If the bytes are not an image.
+            If the bytes are not an image, or if other bytes follow it.
         """
         data = data_in(image)
-        return cls._of(_library.convert(data, _library.width_in(data)))
+        made = cls._of(_library.convert(data, _library.width_in(data)))
+        _library.check_end(data)
+        return made
 
     def to_bytes(self, *, plain: bool = False) -> bytes:
         """Return the image: compact, with coupons in ascending order.
@@ -210,7 +211,8 @@ class Sketch:
     def read(cls: Type[_S], path: Union[str, "os.PathLike[str]"]) -> _S:
         """Read the file of a sketch.
 
-        The first bytes of the file say how long the image is. No further bytes are read.
+        The first bytes of the file say how long the image is. Only one more byte is read, to see whether
+        the file ends there.
 
         Raises
         ------

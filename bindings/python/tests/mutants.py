@@ -1,8 +1,5 @@
 # SPDX-License-Identifier: Apache-2.0
-"""Images of each stage and width, unchanged or mutated, by a seeded generator.
-
-The kinds, and the ways to mutate, are those of bench/rust/src/mutants.rs.
-"""
+"""Images of each stage and width, unchanged or mutated, by a seeded generator."""
 import random
 import struct
 

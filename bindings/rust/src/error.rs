@@ -34,6 +34,11 @@ pub(crate) enum Cause {
         len: usize,
         index: Option<usize>,
     },
+    /// Returns the error for bytes of this length, of which `more` follow an image.
+    Trailing {
+        more: usize,
+        len: usize,
+    },
     Limits {
         lg_k: u8,
         len: usize,
@@ -84,6 +89,11 @@ impl Error {
         }
     }
 
+    /// The error of a call that read an image of which `more` bytes of `len` are no part.
+    pub(crate) fn of_trailing(more: usize, len: usize) -> Self {
+        Self::new(Cause::Trailing { more, len })
+    }
+
     /// The error of a checked image, whose `lg_k` is not that of the images before it.
     pub(crate) fn of_other_lg_k(lg_k: u8, image: &[u8]) -> Self {
         Self::new(Cause::OtherLgK { lg_k, other: libhll::head(image).lg_k, index: None })
@@ -100,18 +110,19 @@ impl Error {
     /// Returns what kind of error it is.
     pub fn kind(&self) -> ErrorKind {
         match self.cause {
-            Cause::Image { .. } | Cause::Limits { .. } => ErrorKind::InvalidData,
+            Cause::Image { .. } | Cause::Trailing { .. } | Cause::Limits { .. } => ErrorKind::InvalidData,
             Cause::LgK { .. } | Cause::OtherLgK { .. } | Cause::Coupon(_) => ErrorKind::InvalidArgument,
             Cause::Memory => ErrorKind::OutOfMemory,
         }
     }
 
     /// Returns one word: for a rejected image the first check that it fails (`"truncated"`, `"family"`, .., as in the table
-    /// of docs/FORMAT.md, "Reasons"), else `"limits"`, `"argument"`,
+    /// of docs/FORMAT.md, "Reasons"), else `"trailing"`, `"limits"`, `"argument"`,
     /// `"other_lg_k"` or `"memory"`.
     pub fn reason(&self) -> &'static str {
         match self.cause {
             Cause::Image { status, .. } => reason(status).0,
+            Cause::Trailing { .. } => "trailing",
             Cause::Limits { .. } => "limits",
             Cause::LgK { .. } | Cause::Coupon(_) => "argument",
             Cause::OtherLgK { .. } => "other_lg_k",
@@ -142,6 +153,9 @@ impl fmt::Display for Error {
             Cause::Image { status, len, .. } => {
                 let (word, sentence) = reason(status);
                 write!(f, "these {len} bytes are not the image of a sketch: {sentence} ({word})")
+            }
+            Cause::Trailing { more, len } => {
+                write!(f, "these {len} bytes are more than the image of a sketch, which takes {} of them (trailing)", len - more)
             }
             Cause::Limits { lg_k, len, most_lg_k, most_len } => write!(
                 f,

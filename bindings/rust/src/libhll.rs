@@ -55,6 +55,7 @@ calls! {
     "hll_0_2_processor" fn hll_processor() -> *const c_char;
     "hll_0_2_image_head" fn hll_image_head(image: *const u8, len: usize, head: *mut Head, head_size: usize) -> Status;
     "hll_0_2_image_check" fn hll_image_check(image: *const u8, len: usize) -> Status;
+    "hll_0_2_image_trailing" fn hll_image_trailing(bytes: *const u8, len: usize, more: *mut usize) -> Status;
     "hll_0_2_images_unionv" fn hll_images_unionv(
         lg_max_k: c_uint,
         width: c_uint,
@@ -159,6 +160,14 @@ pub(crate) fn head(image: &[u8]) -> Head {
     let status = unsafe { hll_image_head(image.as_ptr(), image.len(), &mut head, size_of::<Head>()) };
     debug_assert_eq!(status, OK);
     head
+}
+
+/// How many bytes follow an image.
+pub(crate) fn trailing(image: &[u8]) -> usize {
+    let mut more = 0;
+    let status = unsafe { hll_image_trailing(image.as_ptr(), image.len(), &mut more) };
+    debug_assert_eq!(status, OK);
+    more
 }
 
 pub(crate) fn image_check(image: &[u8]) -> Result<(), Status> {

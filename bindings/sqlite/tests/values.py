@@ -1,10 +1,11 @@
 # SPDX-License-Identifier: Apache-2.0
-"""What values count by: beside the hash of docs/FORMAT.md, and beside the Python package."""
+"""What values count by: the cases of tests/behaviour, and many values beside the hash of docs/FORMAT.md and the Python package."""
 import math
 import random
 import struct
 
 from base import ask, connect, db, plain, table_of
+from behaviour.cases import cases
 from hll_sketches import Sketch
 from images import image_of_values
 from report import SEED, check, equal
@@ -27,21 +28,30 @@ def bytes_of(value):
     return value
 
 
+def expression(kind, written):
+    """A value of tests/behaviour as SQL, and its arguments."""
+    if kind == "text":
+        return "?", [written.decode()]
+    if kind == "bytes":
+        return "?", [written]
+    if kind == "real":
+        return "?", [float(written)]
+    return {"missing": "NULL"}.get(kind, written), []
+
+
 def types():
-    """A value of each type, alone: its coupon is that of its bytes, and the one that Python makes of it."""
-    for value in INTEGERS + REALS + TEXTS + BLOBS:
-        found, sketch = ask("SELECT hll_image_add_agg(?)", value), Sketch()
-        sketch.update(value)
-        equal("coupon of %.40r" % (value,), found, image_of_values(12, 8, [bytes_of(value)]))
-        equal("coupon of %.40r in Python" % (value,), found, sketch.to_bytes())
-    for first, second, wanted in ((7, 7.0, 2), (7, "7", 2), (7.0, "7.0", 2), ("7", b"7", 1), (0.0, -0.0, 1), (0, 0.0, 1), ("", b"", 1)):
-        found = ask("SELECT json_extract(hll_info(hll_image_add_agg(x)), '$.coupons') FROM " + table_of([first, second]))
-        equal("%r and %r" % (first, second), found, wanted)
+    """A value of each type, alone: its coupon is the one that every binding has."""
+    for kind, written, wanted in cases("sqlite"):
+        sql, arguments = expression(kind, written)
+        found = ask("SELECT hll_image_add_agg(%s)" % sql, *arguments)
+        found = "missing" if found is None else int.from_bytes(found[8:], "little")
+        equal("%s %r" % (kind, written), found, wanted)
+    for value in TEXTS[-1], BLOBS[-1]:
+        equal("%d bytes" % len(value), ask("SELECT hll_image_add_agg(?)", value), image_of_values(12, 8, [bytes_of(value)]))
     db.execute("CREATE TEMP TABLE IF NOT EXISTS people (name TEXT COLLATE NOCASE)")
     db.execute("INSERT INTO people VALUES ('Ann'), ('ann'), ('Bob')")
     found = ask("SELECT json_array(count(DISTINCT name), hll_estimate(hll_add_agg(name)) > 2.5, hll_estimate(hll_add_agg(lower(name))) < 2.5) FROM people")
     equal("texts under NOCASE", found, "[2,1,1]")
-    equal("a NaN is NULL in SQLite", ask("SELECT hll_image_add_agg(?)", math.nan), None)
     equal("a column of a type", ask("SELECT hll_image_add_agg(x) FROM (SELECT CAST(7.0 AS INTEGER) AS x)"),
           image_of_values(12, 8, [bytes_of(7)]))
 

@@ -29,8 +29,9 @@ impl HllSketch {
         Ok(Self { state: State::new(check_lg_k("lg_config_k", lg_config_k)?), hll_type })
     }
 
-    /// Reads an image of any DataSketches library. The image is checked whole; bytes after it are not read. Of untrusted
-    /// bytes check the [`Limits`](super::Limits) first.
+    /// Reads an image of any DataSketches library. The image is checked whole; bytes after it are not read, as by the original
+    /// crate: [`deserialize_exact`](Self::deserialize_exact) rejects them. Of untrusted bytes check the
+    /// [`Limits`](super::Limits) first.
     ///
     /// A HIP estimate that the image has stays in it until a register changes. [`estimate`](Self::estimate) doesn't use it:
     /// see [`hip_estimate`](super::hip_estimate).
@@ -42,6 +43,19 @@ impl HllSketch {
         let state = State::read(bytes)?;
         let hll_type = HllType::of_width(libhll::head(bytes).width); // also that of an empty sketch
         Ok(Self { state, hll_type })
+    }
+
+    /// Reads an image as [`deserialize`](Self::deserialize) does, and rejects bytes after it, which may be a second image.
+    ///
+    /// # Errors
+    ///
+    /// As [`deserialize`](Self::deserialize), and `InvalidData` with the reason `"trailing"` if bytes follow the image.
+    pub fn deserialize_exact(bytes: &[u8]) -> Result<Self, Error> {
+        let sketch = Self::deserialize(bytes)?;
+        match libhll::trailing(bytes) {
+            0 => Ok(sketch),
+            more => Err(Error::of_trailing(more, bytes.len())),
+        }
     }
 
     /// Returns the image, which other DataSketches libraries read. The same sketch has the same image.
