@@ -118,8 +118,8 @@
  *       the union is canonical too.
  *     - What hll_image_head reports. If the bytes begin with an image, the size is the size of that image.
  *     Not proved, but tested: counters (the memory of a sketch, its waiting values and copies; each change of the sketch is a
- *     proved call), bounds, estimates from coupons, hll_hip_estimate, hll_version, hll_processor, the division of a state's room by
- *     four, and what this header defines itself. Nothing is proved of time, threads, NULL and other libraries. Of memory
+ *     proved call), bounds, estimates from coupons, hll_image_trailing, hll_hip_estimate, hll_version, hll_processor, the division
+ *     of a state's room by four, and what this header defines itself. Nothing is proved of time, threads, NULL and other libraries. Of memory
  *     one thing is proved: for which images an allocation may fail.
  */
 #ifndef HLL_H

@@ -173,7 +173,7 @@ SPELLINGS = {
     "bit": "????|B????|x#", "varbit": "?|B?|????|B????|x#|????????|x##", "money": "#|#.00|$#.#|$#.#0|-#.##|(#.##)|-$#|#,#00",
     "inet": "10.0.#.#|10.0.#.#/32|10.0.#.#/24|::#|::000#|0:0::#/128|::ffff:10.0.0.#|::FFFF:a00:#", "cidr": "10.#|10.#.0.0/16|10.#.0/24|10.#/16|::#|::000#/128|10.#.#.#",
     "macaddr": "08:00:2b:01:0#:0#|08-00-2B-01-0#-0#|08002b:010#0#", "macaddr8": "08:00:2b:ff:fe:01:0#:0#|08-00-2B-FF-FE-01-0#-0#|08:00:2b:01:0#:0#",
-    "oid": "##|0##|00##", "xid": "1##| 1##", "xid8": "1##| 1##", "cid": "1##| 1##", "tid": "(#,#)|(0#,00#)", "pg_lsn": "#/#a|0#/#A|00#/000#A", "reg": "1###|01###|0##",
+    "oid": "##| ##|00##", "xid": "1##| 1##", "xid8": "1##| 1##", "cid": "1##| 1##", "tid": "(#,#)|(0#,00#)", "pg_lsn": "#/#a|0#/#A|00#/000#A", "reg": "1###| 1###|##",
     "tsvector": "b#:1#|b#:1#A a|a b#:1#a|b#|'b#' a|a:1 b#:2,1#|a:1 b#:1#D,2|", "int4range": "[#,1#)|(#,1#]|[#,1#]|(#,)|[#,)|(,#)|empty|(1#,2#)|[1,1)", "int8range": "[#,1#)|(#,1#]|(,#)|[1,1)",
     "daterange": "[2026-01-1#,2026-02-1#)|(2026-01-1#,2026-02-1#]|[20260111,2026-2-1#]|(,2026-01-1#)|[-infinity,2026-01-1#)|[2026-01-1#,infinity]",
     "tsrange": "[2026-01-1#,2026-02-1#)|[2026-01-1# 00:00,20260211 0:00)|[2026-01-1# 00:00,20260211 #:0#]|(,2026-01-1# 00:00:00.0)|(2026-01-1#,infinity]|empty",
@@ -284,7 +284,7 @@ def refused_texts(server):
         for value, kind in ("name", "citext"), ("nick", "nickname"), ("coalesce(name, nick)", "citext"):
             said = server.run("SELECT %s FROM people;" % (call % value))
             refused("%s of a %s" % (call, kind), said, DATATYPE, "values of type %s cannot be counted" % kind)
-            check("a cast for " + kind, "with CAST(value AS text), or a form that equal values share, for example lower(value)." in said, said)
+            check("a cast for " + kind, "with CAST(value AS text), or a form that equal values share, for example lower(value)" in said, said)
         for value in "under", "plain COLLATE ignores_case", "ARRAY[under]::text":
             said = server.run("SELECT %s FROM people;" % (call % value))
             refused("%s of %s" % (call, value), said, "42P21", "texts under the nondeterministic collation \"ignores_case\" cannot be counted")
