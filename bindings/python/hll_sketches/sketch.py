@@ -3,6 +3,7 @@
 from __future__ import annotations
 
 import os
+from base64 import b64decode, b64encode
 from operator import index
 from typing import Any, Iterable, List, Optional, SupportsIndex, Tuple, Type, TypeVar, Union
 
@@ -206,6 +207,30 @@ class Sketch:
 
     def __bytes__(self) -> bytes:
         return self.to_bytes()
+
+    @classmethod
+    def from_base64(cls: Type[_S], text: str) -> _S:
+        """Read what ``to_base64`` returned, here or in Go or JavaScript.
+
+        Raises
+        ------
+        ArgumentError
+            If the text is not base64.
+        ImageError
+            If its bytes are not an image, or if other bytes follow it.
+        """
+        try:
+            data = b64decode(text, validate=True)
+        except ValueError as error:
+            raise ArgumentError(f"the text is not base64: {error}") from None
+        return cls.from_bytes(data)
+
+    def to_base64(self) -> str:
+        """Return the image in base64, for JSON and other texts.
+
+        ``to_json`` of pandas takes objects apart, and loses the image: give it a column of these texts.
+        """
+        return b64encode(self.to_bytes()).decode()
 
     @classmethod
     def read(cls: Type[_S], path: Union[str, "os.PathLike[str]"]) -> _S:

@@ -408,6 +408,15 @@ class SketchTest(unittest.TestCase):
                 self.assertEqual((again, again.width), (sketch, width))
                 self.assertTrue(is_image(sketch.to_bytes()))
 
+    def test_base64(self):
+        sketch = self.filled(12, 8, 3000)
+        self.assertEqual(Sketch.from_base64(sketch.to_base64()), sketch)
+        self.assertEqual(Sketch.from_base64("AgEHDAMIAgj4EWAEvyBkHA==").to_base64(), "AgEHDAMIAgj4EWAEvyBkHA==")
+        with self.assertRaisesRegex(ArgumentError, "^the text is not base64: "):
+            Sketch.from_base64("ann!")
+        with self.assertRaisesRegex(ImageError, "trailing"):
+            Sketch.from_base64("AgEHDAMIAgj4EWAEvyBkHAAA")
+
     def test_equality(self):
         self.assertEqual(Sketch(10), Sketch(10))
         self.assertNotEqual(Sketch(10), Sketch(11))
