@@ -178,17 +178,17 @@ def left_out(client, folder, images, paths):
 
 
 def large_files(client, folder, images, paths):
-    """No more of a file is read than its header announces, and an allocation that fails is an error of its file."""
-    large, wanted = folder / "large.bin", union_by_program(images[:20])
+    """Of a file that is more than one image few more bytes are read than its header announces, and an allocation that fails is an
+    error of its file."""
+    large, wanted, others = folder / "large.bin", union_by_program(images[:20]), union_by_program(images[:7] + images[8:20])
     large.write_bytes(images[7])
     os.truncate(large, 1 << 40)     # with holes; all of it is more than any memory
     files = paths[:7] + [str(large)] + paths[8:20]
     opened_ones = fsspec.open_files([str(large)], "rb")
     for name, some in (("a path", files), ("a URL", paths[:7] + ["file://%s" % large] + paths[8:20]),
                        ("an open file", paths[:7] + opened_ones + paths[8:20])):
-        equal("a large file, %s" % name, image_by(files_at_12(some)), wanted)
         found = files_at_12(some, on_error="skip").compute()
-        equal("a large file, %s, nothing skipped" % name, (found.union.to_bytes(), found.refused), (wanted, []))
+        equal("a large file, %s" % name, (found.union.to_bytes(), [why for _, why in found.refused]), (others, ["trailing"]))
     endless = files_at_12(paths[:20] + ["/dev/zero"], on_error="skip").compute()
     equal("an endless file", (endless.union.to_bytes(), endless.refused), (wanted, [("/dev/zero", "family")]))
 
@@ -200,7 +200,7 @@ def large_files(client, folder, images, paths):
     with mock.patch.object(hll_sketches.dask, "read_path", failing):
         found = files_at_12(files, on_error="skip").compute(scheduler="synchronous")
         equal("a failed allocation", (found.union.to_bytes(), found.refused),
-              (union_by_program(images[:7] + images[8:20]), [(str(large), "an allocation failed")]))
+              (others, [(str(large), "an allocation failed")]))
         try:
             files_at_12(files).compute(scheduler="synchronous")
             check("a failed allocation is raised", False)

@@ -78,12 +78,22 @@ def outcome_of(source):
     return found, None
 
 
+def has_more(image):
+    """Whether bytes follow an image: without its last byte it is one still. The buckets of an empty list are no such bytes."""
+    try:
+        read(image[:-1])
+    except Refused:
+        return False
+    return not (len(image) == 40 and image[5] & 12 == 4 and image[7] & 3 == 0 and not any(image[8:]))
+
+
 def reason_of(image):
     """The word of the reason for which an image is rejected, or None; and its lg_k."""
     try:
-        return None, read(image)[0]
+        lg_k = read(image)[0]
     except Refused as refusal:
         return str(refusal), None
+    return ("trailing" if has_more(image) else None), lg_k
 
 
 def content_of(image):

@@ -55,6 +55,8 @@ class ImageError(HllError, ValueError):
         The index of the image, if several were given.
     place : str or None
         Where the image is, if that is known, for example the path of its file.
+    sizes : (int, int) or None
+        If other bytes follow an image: its size, and that of all bytes.
     """
 
     def __init__(
@@ -65,20 +67,20 @@ class ImageError(HllError, ValueError):
         sizes: Optional[Tuple[int, int]] = None,
     ) -> None:
         super().__init__(reason, number, place, sizes)
-        self.reason, self.number, self.place, self._sizes = reason, number, place, sizes
+        self.reason, self.number, self.place, self.sizes = reason, number, place, sizes
 
     def at(self, number: Optional[int], place: Optional[str] = None) -> ImageError:
         """Return this error with the number or the place of the image."""
-        return ImageError(self.reason, number, place, self._sizes)
+        return ImageError(self.reason, number, place, self.sizes)
 
     def __str__(self) -> str:
         which = "image" if self.number is None else f"image {self.number}"
         if self.place is not None:
             which = f"{shown(self.place)}: image"
-        return f"{which} is rejected: {explained(self.reason, self._sizes)}"
+        return f"{which} is rejected: {explained(self.reason, self.sizes)}"
 
     def __reduce__(self) -> Tuple[type, Tuple[Any, ...]]:
-        return type(self), (self.reason, self.number, self.place, self._sizes)
+        return type(self), (self.reason, self.number, self.place, self.sizes)
 
 
 class PrecisionError(HllError, ValueError):

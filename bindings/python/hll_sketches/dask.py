@@ -81,8 +81,10 @@ class PlacedImageError(ImageError):
         The path of the file, or the key of the group, and the row.
     """
 
-    def __init__(self, reason: str, number: Optional[int], place: str) -> None:
-        super().__init__(reason, number, place)
+    def __init__(
+        self, reason: str, number: Optional[int], place: str, sizes: Optional[Tuple[int, int]] = None
+    ) -> None:
+        super().__init__(reason, number, place, sizes)
 
 
 class LeftOut(NamedTuple):
@@ -160,7 +162,7 @@ def _placed(
         return merged(kept, bounds.lg_max_k), refused
     except ImageError as error:
         number, place = place_of(error.number or 0)
-        raise PlacedImageError(error.reason, number, place) from None
+        raise PlacedImageError(error.reason, number, place, error.sizes) from None
     except PrecisionError as error:
         number = error.number or 0
         raise error.at(*place_of(numbers[number] if bounds.skips else number)) from None
