@@ -199,20 +199,22 @@ def read_image(read: Read) -> bytes:
 
 
 def images_in_stream(read: Read) -> Iterator[bytes]:
-    """Yields the images that follow one another in a stream. If one is none, it is the last."""
-    data = read_up_to(read, PIECE)
-    while data:
-        size = size_of(data)
-        if len(data) < size:
-            data += read_up_to(read, size - len(data))
-        if _library.head(data).fault != _library.OK:
-            size = len(data)
-        elif not _library.trailing(data[:MORE]):
-            size = max(size, min(len(data), MORE))      # an empty list with its buckets
-        yield data[:size]
-        data = data[size:]
-        if len(data) < MORE:
-            data += read_up_to(read, PIECE)
+    """Yields the images that follow one another in a stream. Bytes that begin no image are the last."""
+    data, at = read_up_to(read, PIECE), 0
+    while at < len(data):
+        head = _library.head(data[at : at + MORE])
+        if head.fault != _library.OK:
+            yield data[at:]
+            return
+        end = at + head.size
+        if end > len(data):
+            data, at, end = data[at:] + read_up_to(read, end - len(data)), 0, head.size
+        elif not _library.trailing(data[at : at + MORE]):
+            end = max(end, min(len(data), at + MORE))       # an empty list with its buckets
+        yield data[at:end]
+        at = end
+        if len(data) - at < MORE:
+            data, at = data[at:] + read_up_to(read, PIECE), 0
 
 
 def opened_to_read(path: str) -> int:

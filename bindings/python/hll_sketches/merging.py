@@ -78,18 +78,6 @@ class OtherLgK(Trouble):
         self.args = name, error, before     # for the process that raises it again
 
 
-def _images_of_standard() -> Iterator[Tuple[str, bytes]]:
-    """Yields the images that follow one another on standard input, with their names."""
-    try:
-        for number, image in enumerate(images_in_stream(partial(os.read, 0)), 1):
-            if image.startswith(MAGIC):
-                for _ in entries_of_file(STANDARD):     # which says that it has to be a file
-                    pass
-            yield STANDARD if number == 1 else f"{STANDARD} (image {number:,})", image
-    except OSError as error:
-        raise unusable(STANDARD, error) from None
-
-
 class _Files:
     """The union of files, a batch of bounded size at a time."""
 
@@ -111,7 +99,7 @@ class _Files:
         with their names; none for a file that can't be read."""
         try:
             if name == STANDARD:
-                return list(_images_of_standard())
+                return self._images_of_standard()
             image = bytes_of_file(name)
             if not image.startswith(MAGIC):
                 return [(name, image)]
@@ -121,6 +109,19 @@ class _Files:
             self.troubles.append(trouble)
             return []
         return ((name_of_entry(name, key), image) for key, image in entries_of_file(name))
+
+    def _images_of_standard(self) -> Iterator[Tuple[str, bytes]]:
+        """Yields the images that follow one another on standard input, with their names."""
+        try:
+            for number, image in enumerate(images_in_stream(partial(os.read, 0)), 1):
+                if image.startswith(MAGIC):
+                    for _ in entries_of_file(STANDARD):     # which says that it has to be a file
+                        pass
+                yield STANDARD if number == 1 else f"{STANDARD} (image {number:,})", image
+        except OSError as error:
+            self.troubles.append(unusable(STANDARD, error))
+        except Trouble as trouble:
+            self.troubles.append(trouble)
 
     def _take_image(self, name: str, image: bytes) -> None:
         """Puts an image into the batch."""

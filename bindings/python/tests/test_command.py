@@ -589,6 +589,18 @@ class CheckTest(CommandTest):
         status, out, err = self.run_hll("merge", "-o", "-", "-", given=images + b"\2\1")
         self.assertEqual((status, out), (1, b""))
         self.assertIn("- (image 4): image truncated (the bytes end inside what the header asks for)\n", err)
+        status, out, err = self.run_hll("merge", "-o", "-", "-", given=images + bytes(1 << 20))
+        self.assertEqual((status, out, err.count("(image ")), (1, b"", 1))
+
+    def test_a_stream_is_cut_into_its_images(self):
+        """Wherever a read ends, and however many images there are."""
+        some = [sketch_of(range(count), 12, width).to_bytes() for count in (0, 3, 50, 300, 30_000) for width in (4, 8)]
+        some.append(bytes.fromhex("0201070a03040008") + bytes(32))      # an empty list with its buckets
+        numbers = random.Random(5)
+        for most in (1, 7, 4096, 1 << 20):
+            images = [numbers.choice(some) for _ in range(300 if most > 7 else 20)]
+            stream = io.BytesIO(b"".join(images))
+            self.assertEqual(list(files.images_in_stream(lambda size: stream.read(min(size, most)))), images)
 
     HEXADECIMAL = "it is text, the hexadecimal digits of an image (xxd -r -p makes bytes of them)"
     OTHERS = (
