@@ -5,7 +5,7 @@ the prover's verdict, META.json, TRUST.md, TRIED, a bill of materials of each, a
 
     packaging/dist.py                           `make dist`: in a checkout of git. The Debian packages are for this release of Debian
     packaging/dist.py --release                 `make release`: of a commit with a tag such as v0.2.0-rc1. The Debian packages are for each release of
-                                                packaging/roots.py, and are built in roots of these. It also makes the Rust crate, the site
+                                                scripts/roots.py, and are built in roots of these. It also makes the Rust crate, the site
                                                 and RELEASE, which names the tag and the commit
     packaging/dist.py --release --without-texts the same without the texts for other systems: not to be published, as RELEASE then says
 

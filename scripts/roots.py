@@ -1,8 +1,9 @@
 # SPDX-License-Identifier: Apache-2.0
-"""Roots of Debian releases, in which packages are built, and installed as a new user installs them.
+"""Roots of Debian releases: packages are built in them, and installed as a new user installs them, and the checkout is built and tested.
 
-mmdebstrap makes a root once, below the user's cache directory (scripts/systems.py); later runs use it again and change nothing in it: what
-runs in a root sees a copy, whose changes are in memory and end with it. This needs root, mmdebstrap, unshare and Debian's packages.
+mmdebstrap makes a root once, below the user's cache directory ($XDG_CACHE_HOME, or ~/.cache, in hll-sketches/roots). Later runs use it
+again and change nothing in it: what runs in a root sees a copy, whose changes are in memory and end with it. This needs root, mmdebstrap,
+unshare and Debian's packages.
 """
 import collections
 import fcntl
@@ -12,13 +13,12 @@ import pathlib
 import shutil
 import subprocess
 
-import systems
-
+CACHE = pathlib.Path(os.environ.get("XDG_CACHE_HOME") or pathlib.Path.home() / ".cache") / "hll-sketches" / "roots"
 Release = collections.namedtuple("Release", "number codename")
 RELEASES = [Release("12", "bookworm"), Release("13", "trixie")]
 # what a user has who builds with the library: a compiler, Python, the databases
 USER = "cmake g++ gcc libc6-dev make man-db pkg-config postgresql python3 python3-venv sqlite3".split()
-TRIES, MINUTES = 3, 15
+TRIES, MINUTES = 3, 20
 PLAIN = {"PATH": "/usr/sbin:/usr/bin:/sbin:/bin", "LC_ALL": "C.UTF-8", "TZ": "UTC", "HOME": "/room"}
 # $0 is the root, $1 the script, $2 a directory for the copy and $3 what the script sees as /room
 SCRIPT = """set -e
@@ -38,6 +38,13 @@ class Missing(Exception):
     """Why there is no root of a release."""
 
 
+def ran(*words, **more):
+    """Runs a command. Returns its status and what it said."""
+    done = subprocess.run([str(word) for word in words], stdin=subprocess.DEVNULL, stdout=subprocess.PIPE, stderr=subprocess.STDOUT, text=True,
+                          errors="replace", **more)
+    return done.returncode, done.stdout
+
+
 def tools_missing():
     """Why no root can be made here, or None."""
     if os.geteuid() != 0:
@@ -50,11 +57,11 @@ def root(release, kind, packages):
     """The root of a release with these packages, made if it isn't there."""
     if tools_missing():
         raise Missing(tools_missing())
-    systems.CACHE.mkdir(parents=True, exist_ok=True)
-    place = systems.CACHE / ("%s-%s" % (release.codename, kind))
-    mark = systems.CACHE / (place.name + ".made-of")
+    CACHE.mkdir(parents=True, exist_ok=True)
+    place = CACHE / ("%s-%s" % (release.codename, kind))
+    mark = CACHE / (place.name + ".made-of")
     wanted = hashlib.sha256(repr(sorted(packages)).encode()).hexdigest()
-    with open(systems.CACHE / (place.name + ".lock"), "w") as lock:
+    with open(CACHE / (place.name + ".lock"), "w") as lock:
         fcntl.flock(lock, fcntl.LOCK_EX)
         if mark.exists() and mark.read_text() == wanted and place.exists():
             return place
@@ -63,7 +70,7 @@ def root(release, kind, packages):
             shutil.rmtree(place, ignore_errors=True)
             words = ["mmdebstrap", "--mode=root", "--variant=apt", "--quiet", "--dpkgopt=force-unsafe-io", '--aptopt=APT::Install-Recommends "false"',
                      "--include=" + ",".join(sorted(packages)), release.codename, place]
-            status, said = systems.ran("timeout", 60 * MINUTES, *words)
+            status, said = ran("timeout", str(60 * MINUTES), *words)
             if status == 0:
                 mark.write_text(wanted)
                 return place
@@ -74,11 +81,11 @@ def run_in(place, script, room, **more):
     """Runs a script for the shell as root in a copy of a root, in which the directory `room` is /room. Returns its status and what it said."""
     copy = pathlib.Path(room).parent / (pathlib.Path(room).name + ".root")
     copy.mkdir()
-    words = ["timeout", str(60 * MINUTES), "unshare", "--mount", "--pid", "--fork", "--kill-child", "--propagation", "private", "sh", "-c", SCRIPT,
-             str(place), script, str(copy), str(room)]
-    ran = subprocess.run(words, stdin=subprocess.DEVNULL, stdout=subprocess.PIPE, stderr=subprocess.STDOUT, text=True, errors="replace", env={**PLAIN, **more})
+    words = ["timeout", 60 * MINUTES, "unshare", "--mount", "--pid", "--fork", "--kill-child", "--propagation", "private", "sh", "-c", SCRIPT,
+             place, script, copy, room]
+    status, said = ran(*words, env={**PLAIN, **more})
     copy.rmdir()
-    return ran.returncode, ran.stdout
+    return status, said
 
 
 def versions_in(place, packages):
