@@ -50,7 +50,7 @@ VERDICT = PREBUILT / "VERDICT"
 X86, ARM = "x86_64-unknown-linux-gnu", "aarch64-unknown-linux-gnu"
 PROGRAMS = {"hll_merge": "hll_program", "hll_estimator_fields": "hll_estimator_fields_program"}
 # Proved in this order, each over the libraries before it.
-LIBRARIES = ["hll_base", "hll_kernels", "hll_estimate", "hll_text", "hll_coupons", "hll_registers", "hll_arrays", "hll_sketch", "hll_state", "hll_merge", "hll_estimator_fields"]
+LIBRARIES = ["hll_base", "hll_kernels", "hll_estimate", "hll_text", "hll_coupons", "hll_registers", "hll_arrays", "hll_sketch", "hll_images", "hll_state", "hll_merge", "hll_estimator_fields"]
 # Other builds of the library, which only tests use: by the toolchain's own compiler, and by another toolchain than VERDICT's.
 OTHERS = ROOT / "crates" / "hll_c" / "out"
 OTHER_COMPILER = OTHERS / "other-compiler.a"

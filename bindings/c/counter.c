@@ -309,7 +309,7 @@ static hll_status make_copy(const hll_counter *counter, scratch *copy)
     return hll_state_add_coupons(copy->state, copy->room, &needed, counter->waiting, counter->n_waiting);
 }
 
-/* Calls that read a settled state change no byte of it (hll.h). */
+/* As the other state of a join, a settled state changes no byte (hll.h). */
 static hll_status begin_reading(const hll_counter *counter, scratch *copy)
 {
     copy->allocated = NULL;
@@ -331,6 +331,8 @@ hll_status hll_counter_image(const hll_counter *counter, unsigned width, uint8_t
     hll_status status;
     if (width != 4 && width != 6 && width != 8)
         return HLL_ARGUMENT;
+    if (counter->is_settled)
+        return hll_state_settled_image(counter->state, counter->room, width, out, room, size);
     status = begin_reading(counter, &copy);
     if (status == HLL_OK)
         status = hll_state_image(copy.state, copy.room, width, out, room, size);
@@ -341,7 +343,10 @@ hll_status hll_counter_image(const hll_counter *counter, unsigned width, uint8_t
 hll_status hll_counter_estimate(const hll_counter *counter, hll_estimation *estimation)
 {
     scratch copy;
-    hll_status status = begin_reading(counter, &copy);
+    hll_status status;
+    if (counter->is_settled)
+        return hll_state_settled_estimate(counter->state, counter->room, estimation);
+    status = begin_reading(counter, &copy);
     if (status == HLL_OK)
         status = hll_state_estimate(copy.state, copy.room, estimation);
     end_reading(counter, &copy);

@@ -226,22 +226,30 @@ static hll_estimation estimation_of_coupons(uint64_t coupons)
     return found;
 }
 
+/* Sets the estimation of registers or coupons, if a call found one. */
+static hll_status put_estimation(hll_status status, const struct estimate *found, hll_estimation *estimation)
+{
+    if (status == HLL_OK)
+        *estimation = found->registers ? estimation_of_registers(found) : estimation_of_coupons(found->seen);
+    return status;
+}
+
 hll_status hll_estimate(const uint8_t *image, size_t len, hll_estimation *estimation)
 {
     struct estimate found;
-    hll_status status = proved_hll_estimate(image, len, &found);
-    if (status == HLL_OK)
-        *estimation = found.registers ? estimation_of_registers(&found) : estimation_of_coupons(found.seen);
-    return status;
+    return put_estimation(proved_hll_estimate(image, len, &found), &found, estimation);
 }
 
 hll_status hll_state_estimate(void *state, size_t room, hll_estimation *estimation)
 {
     struct estimate found;
-    hll_status status = proved_hll_state_estimate(state, room / 4, &found);
-    if (status == HLL_OK)
-        *estimation = found.registers ? estimation_of_registers(&found) : estimation_of_coupons(found.seen);
-    return status;
+    return put_estimation(proved_hll_state_estimate(state, room / 4, &found), &found, estimation);
+}
+
+hll_status hll_state_settled_estimate(const void *state, size_t room, hll_estimation *estimation)
+{
+    struct estimate found;
+    return put_estimation(proved_hll_state_settled_estimate(state, room / 4, &found), &found, estimation);
 }
 
 hll_status hll_registers_estimate(const uint8_t *registers, size_t count, hll_estimation *estimation)

@@ -96,10 +96,10 @@
  *     (bindings/c/processor.c), tested and not proved.
  *
  * Threads
- *     Calls share no data but that choice. Any number of threads may call at once, also with the same inputs. Calls on a state may change the
- *     bytes of the state, but hll_state_info doesn't: use a state in one thread at a time. hll_state_image, hll_state_estimate and
- *     the other state of hll_state_join_state change no byte of a state that one of the first two has read since something was
- *     added or merged, or that has registers: then any number of threads may read it.
+ *     Calls share no data but that choice. Any number of threads may call at once, also with the same inputs. Use a state in one
+ *     thread at a time, because calls on a state may change its bytes. hll_state_info, hll_state_settled_image and
+ *     hll_state_settled_estimate write no byte of it: any number of threads may make these calls on one state at once, in
+ *     memory that is only readable, too. As the other state of hll_state_join_state, a settled state changes no byte either.
  *
  * What is proved
  *     - Of the calls on images, caller-owned registers, states and coupons: which status they return, what they write and what
@@ -297,9 +297,9 @@ hll_status hll_image_histogram(const uint8_t *image, size_t len, hll_histogram *
 hll_status hll_image_new(unsigned lg_k, unsigned width, uint8_t *out, size_t room, size_t *size);
 
 /* Writes the image with n more values: byte strings, delimited by `ends`. Pass many at once, because each call reads the
- * whole image and writes it again. A value that a canonical image already has changes nothing. An image of another program
- * may be fuller than a canonical one, and then grows: a list of eight becomes a set, and a set that is more than three
- * quarters full gets a larger table or becomes registers.
+ * whole image and writes it again. A value that a canonical image already has changes no coupon and no register; estimator
+ * fields of 0 are filled in. An image of another program may be fuller than a canonical one, and then grows: a list of eight
+ * becomes a set, and a set that is more than three quarters full gets a larger table or becomes registers.
  * The bytes are hashed as they are, as in Python, SQL, Java and C++. The Rust crate datasketches, and update of the crates for
  * Rust and Rattle here, hash a str with a byte ff after it: "ann" from there and "ann" from here are two values.
  * Returns HLL_OK, 1 to 11, HLL_ARGUMENT, HLL_MEMORY or HLL_BUFFER. Allocates the memory of reading, and the image; nothing if
@@ -512,8 +512,8 @@ hll_status hll_state_add_coupons(void *state, size_t room, size_t *size, const u
  *                    the call returns HLL_OTHER_LG_K. A state without values takes the lg_k of the first image with values,
  *                    and until then the greatest lg_k of the empty images. Make the state with hll_state_new(0, ..).
  *     lg_max_k 4-21  Images of any lg_k are merged. Make the state with hll_state_new(lg_max_k, ..), or with lg_k 0: then
- *                    the call first makes it that state, even if it returns HLL_BUFFER. If lg_max_k is below the lg_k of
- *                    a state that isn't open, the call returns HLL_ARGUMENT.
+ *                    the first call that returns HLL_OK makes it that state. If lg_max_k is below the lg_k of a state that
+ *                    isn't open, the call returns HLL_ARGUMENT.
  *
  * On HLL_BUFFER *size bytes are enough for the same call, at most HLL_STATE_MOST of the greater lg_k. A loop over images:
  *
@@ -538,6 +538,17 @@ hll_status hll_state_image(void *state, size_t room, unsigned width, uint8_t *ou
  * hll_state_image.
  * Returns HLL_OK, HLL_REGISTER or HLL_ARGUMENT. Allocates nothing. */
 hll_status hll_state_estimate(void *state, size_t room, hll_estimation *estimation);
+
+/* Writes the image of a settled state at this width, and no byte of the state. A state is settled after hll_state_image or
+ * hll_state_estimate has read it, until something is added or merged; a state with registers always is.
+ * Returns HLL_OK, HLL_REGISTER, HLL_ARGUMENT (also if the state isn't settled), HLL_MEMORY or HLL_BUFFER. Allocates as
+ * hll_state_image does. */
+hll_status hll_state_settled_image(const void *state, size_t room, unsigned width, uint8_t *out, size_t out_room,
+                                   size_t *size);
+
+/* Estimates from a settled state, and writes no byte of it.
+ * Returns HLL_OK, HLL_REGISTER or HLL_ARGUMENT (also if the state isn't settled). Allocates nothing. */
+hll_status hll_state_settled_estimate(const void *state, size_t room, hll_estimation *estimation);
 
 /* ---- counters ----
  *

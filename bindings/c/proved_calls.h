@@ -37,6 +37,8 @@ WRAPPED(hll_status, hll_state_join, (unsigned lg_max_k, void *state, size_t elem
 WRAPPED(hll_status, hll_state_join_state, (unsigned lg_max_k, void *state, size_t elements, size_t *size, void *other, size_t other_elements), (lg_max_k, state, elements, size, other, other_elements))
 WRAPPED(hll_status, hll_state_image, (void *state, size_t elements, unsigned width, uint8_t *out, size_t out_room, size_t *size), (state, elements, width, out, out_room, size))
 WRAPPED(hll_status, hll_state_estimate, (void *state, size_t elements, struct estimate *estimate), (state, elements, estimate))
+WRAPPED(hll_status, hll_state_settled_image, (const void *state, size_t elements, unsigned width, uint8_t *out, size_t out_room, size_t *size), (state, elements, width, out, out_room, size))
+WRAPPED(hll_status, hll_state_settled_estimate, (const void *state, size_t elements, struct estimate *estimate), (state, elements, estimate))
 CALL(uint32_t, hll_coupon, (const uint8_t *value, size_t len), (value, len))
 CALL(hll_status, hll_coupons, (const uint8_t *values, size_t values_len, const size_t *ends, size_t n, uint32_t *coupons, size_t room), (values, values_len, ends, n, coupons, room))
 CALL(hll_status, hll_coupons_fixed, (const uint8_t *values, size_t values_len, size_t value_len, uint32_t *coupons, size_t room), (values, values_len, value_len, coupons, room))

@@ -51,3 +51,9 @@ hll_status hll_state_image(void *state, size_t room, unsigned width, uint8_t *ou
 {
     return proved_hll_state_image(state, room / 4, width, out, out_room, size);
 }
+
+hll_status hll_state_settled_image(const void *state, size_t room, unsigned width, uint8_t *out, size_t out_room,
+                                   size_t *size)
+{
+    return proved_hll_state_settled_image(state, room / 4, width, out, out_room, size);
+}

@@ -248,7 +248,9 @@ static void join(world *w, int i, unsigned lg_max_k, const joinable *y)
     while ((status = join_by(w, i, lg_max_k, y, &size)) == HLL_BUFFER) {
         CHECK(reason == 0 && ++turns == 1 && size > w->rooms[i] && size <= HLL_STATE_MOST(21), "%zu bytes, turn %d", size,
               turns);
-        if (!old.s.is_open || lg_max_k == 0)
+        if (old.s.is_open && lg_max_k != 0)
+            check_unchanged("a join without room", w, i, &old);
+        else
             check_state("a join without room", w, i, &old.s.sketch, old.s.widths, old.s.is_open);
         move_state(w, i, size);
         size = UNTOUCHED;
@@ -309,6 +311,26 @@ static void check_state_info(const world *w, int i)
     free_before(&b);
 }
 
+/* A state that was read is settled: the calls that write no byte of it give the same image and estimate. */
+static void check_settled(world *w, int i, unsigned width, const uint8_t *image, size_t len)
+{
+    before b = look(w, i);
+    uint8_t *out = edge(EDGE_OUT, len);
+    size_t size = UNTOUCHED;
+    hll_estimation found;
+    set_pattern(out, len);
+    begin();
+    if (ended("hll_state_settled_image", hll_state_settled_image(w->states[i], w->rooms[i], width, out, len, &size),
+              HLL_OK))
+        CHECK(size == len && memcmp(out, image, len) == 0, "%zu bytes, plainly %zu", size, len);
+    check_edge(EDGE_OUT, len);
+    begin();
+    if (ended("hll_state_settled_estimate", hll_state_settled_estimate(w->states[i], w->rooms[i], &found), HLL_OK))
+        check_estimation(&b.s.sketch, &found);
+    check_unchanged("reading a settled state", w, i, &b);
+    free_before(&b);
+}
+
 /* The image of a state, in exactly the room that it needs. */
 static void check_state_image(world *w, int i, unsigned width)
 {
@@ -331,9 +353,10 @@ static void check_state_image(world *w, int i, unsigned width)
     status = hll_state_image(w->states[i], w->rooms[i], width, out, len, &size);
     if (wanted == HLL_REGISTER && is_damaged(&b.s.sketch))
         CHECK(status == HLL_REGISTER || status == HLL_BUFFER || status == HLL_MEMORY, "hll_state_image: %d", status);
-    else if (ended("hll_state_image", status, wanted))
+    else if (ended("hll_state_image", status, wanted)) {
         CHECK(size == len && memcmp(out, image, len) == 0, "%zu bytes, plainly %zu", size, len);
-    else
+        check_settled(w, i, width, image, len);
+    } else
         CHECK(is_pattern(out, len) && size == UNTOUCHED, "hll_state_image changed its output");
     check_edge(EDGE_OUT, len);
     if (b.is_state)

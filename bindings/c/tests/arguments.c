@@ -127,6 +127,8 @@ static void show_states(bytes right)
     show("hll_state_join", hll_state_join(12, state, sizeof state, &size, right.at, right.len), &size, NULL, state, 40);
     show("hll_state_join", hll_state_join(12, state, 100, &size, right.at, right.len), &size, NULL, state, 40);
     show("hll_state_image", hll_state_image(state, sizeof state, 4, out, sizeof out, &size), &size, NULL, out, sizeof out);
+    show("hll_state_settled_image", hll_state_settled_image(state, sizeof state, 6, out, sizeof out, &size), &size, NULL,
+         out, sizeof out);
 }
 
 static void show_counters(void)

@@ -128,6 +128,21 @@ static hll_status call_state(const uint8_t *image, size_t len, uint8_t *out, siz
     return hll_state_image(state, sizeof state, head_of(image, len).width, out, room, size);
 }
 
+/* A join to a state, and the image that is made once the state is settled. */
+static hll_status call_settled(const uint8_t *image, size_t len, uint8_t *out, size_t room, size_t *size)
+{
+    static uint8_t state[HLL_STATE_MOST(12)];
+    size_t unused = 0;
+    hll_estimation found;
+    hll_status status = hll_state_new(12, state, sizeof state);
+    if (status == HLL_OK)
+        status = hll_state_join(0, state, sizeof state, &unused, image, len);
+    if (status == HLL_OK)
+        status = hll_state_estimate(state, sizeof state, &found);
+    return status == HLL_OK ? hll_state_settled_image(state, sizeof state, head_of(image, len).width, out, room, size)
+                            : status;
+}
+
 /* A join to a state, whose bytes a refusal leaves as they were, and its image. */
 static hll_status call_join(const uint8_t *image, size_t len, uint8_t *out, size_t room, size_t *size)
 {
@@ -261,6 +276,7 @@ static void test_image(bytes image)
     refuse_each("union of parts", call_parts, image);
     refuse_each("join into registers, and their image", call_registers, image);
     refuse_each("image of a state", call_state, image);
+    refuse_each("image of a settled state", call_settled, image);
     refuse_each("join to a state, and its image", call_join, image);
     refuse_each("add of sixty values", call_grow, image);
     for (i = 0; i < TELLERS; i++) {

@@ -308,6 +308,24 @@ static void expect_decided(pair *p, unsigned lg_max_k)
     p->lg_k = (uint8_t)lg_max_k;
 }
 
+/* Gives an open state the room that a join under a bound needs. Without room that join changes no byte. */
+static void make_room(pair *p, unsigned lg_max_k, joinable *other)
+{
+    bytes before = with_room(p->room);
+    size_t size = 77;
+    hll_status status;
+    memcpy(before.at, p->state, p->room);
+    status = call_join(p, lg_max_k, other, &size);
+    if (status == HLL_BUFFER) {
+        CHECK(p->room < size && size <= HLL_STATE_MOST(lg_max_k), "%zu, after %zu", size, p->room);
+        CHECK(memcmp(before.at, p->state, before.len) == 0, "lg_max_k %u: no room, and an open state changed", lg_max_k);
+        move_to(p, size);
+    } else {
+        memcpy(p->state, before.at, before.len);
+    }
+    free(before.at);
+}
+
 /* Random joins to a state whose lg_k is open, until one decides it and after that. */
 static void walk_of_open_states(uint64_t *random, uint8_t most_lg_k)
 {
@@ -320,8 +338,10 @@ static void walk_of_open_states(uint64_t *random, uint8_t most_lg_k)
         unsigned least = is_open ? 4 : p.lg_k, lg_max_k = word % 4 == 0 ? least + (unsigned)(word >> 8) % (22 - least) : 0;
         if (is_open)
             refuses_values(&p);
-        if (is_open && lg_max_k != 0)
+        if (is_open && lg_max_k != 0) {
+            make_room(&p, lg_max_k, &other);
             expect_decided(&p, lg_max_k);
+        }
         is_open = is_open && lg_max_k == 0 && is_empty(other.image);
         join(&p, lg_max_k, &other);
         CHECK(summary_of(&p).is_open == is_open && summary_of(&p).lg_k == p.lg_k, "lg_k %d, step %d", p.lg_k, step);
@@ -458,18 +478,47 @@ static void other_versions(void)
     }
 }
 
-/* A state that was read is read again without a change, also by the calls that join it to another. */
+/* Reads a state by the calls that write no byte of it. Returns HLL_OK if they say what the image says, HLL_ARGUMENT if they say
+ * that the state isn't settled, and else -1. */
+static int read_settled(const pair *p)
+{
+    bytes out = with_room(HLL_IMAGE_MAX(p->lg_k)), wanted = with_room(HLL_IMAGE_MAX(p->lg_k));
+    size_t size = 77, wanted_size = 0;
+    hll_estimation found, wanted_found;
+    hll_status image = hll_state_settled_image(p->state, p->room, 6, out.at, out.len, &size), estimate;
+    int same;
+    memset(&found, 0, sizeof found);
+    memset(&wanted_found, 0, sizeof wanted_found);
+    estimate = hll_state_settled_estimate(p->state, p->room, &found);
+    same = image == HLL_ARGUMENT
+               ? size == 77
+               : hll_image_convert(p->image.at, p->image.len, 6, wanted.at, wanted.len, &wanted_size) == HLL_OK &&
+                     size == wanted_size && memcmp(out.at, wanted.at, size) == 0 &&
+                     hll_estimate(p->image.at, p->image.len, &wanted_found) == HLL_OK &&
+                     memcmp(&found, &wanted_found, sizeof found) == 0;
+    free(out.at);
+    free(wanted.at);
+    return same && image == estimate ? (int)image : -1;
+}
+
+/* A state that was read is read again without a change, also by the calls that join it to another. Calls that write no byte of a
+ * state read it only then. */
 static void settled(void)
 {
     static const size_t counts[] = {0, 1, 7, 8, 100, 300, 383, 384, 5000};
-    size_t i;
+    size_t i, unsettled = 0;
     for (i = 0; i < sizeof counts / sizeof *counts; i++) {
         pair p = new_pair(12), other = new_pair(12);
         bytes before, out = with_room(HLL_IMAGE_MAX(12));
         size_t size = 0;
+        int unread;
         if (counts[i] != 0)
             add(&p, 1, counts[i], 2 * counts[i], 1);
-        CHECK(estimates_alike(&p), "%zu values", counts[i]);
+        unread = read_settled(&p);
+        CHECK(unread == HLL_OK || (unread == HLL_ARGUMENT && 0 < counts[i] && counts[i] < 5000), "%zu values, not read",
+              counts[i]);
+        unsettled += unread == HLL_ARGUMENT;
+        CHECK(estimates_alike(&p) && read_settled(&p) == HLL_OK, "%zu values", counts[i]);
         before = with_room(p.room);
         memcpy(before.at, p.state, p.room);
         move_to(&other, HLL_STATE_MOST(12));
@@ -477,11 +526,13 @@ static void settled(void)
                   hll_state_join_state(12, other.state, other.room, &size, p.state, p.room) == HLL_OK,
               "%zu values", counts[i]);
         CHECK(memcmp(before.at, p.state, p.room) == 0, "%zu values: reading changed a state that was read", counts[i]);
+        CHECK(read_settled(&p) == HLL_OK, "%zu values, read", counts[i]);
         free(before.at);
         free(out.at);
         free_pair(&p);
         free_pair(&other);
     }
+    CHECK(unsettled != 0, "each state was settled before it was read");
 }
 
 /* Joins that are refused, each of which changes nothing. */

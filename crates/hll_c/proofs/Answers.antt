@@ -13,6 +13,11 @@ use Rattle.hll_sketch.specs.Layout.{SketchLayout, sketch_of}
 use Rattle.hll_sketch.specs.Value.{Sketch}
 use Rattle.hll_c.specs.Answers.{Answers, IsImageOf, WithFields, PutsBytes, wrote, too_small, refused, Reports, reported, untold, Tests, passed, failed, ok_code}
 
+-- what two clauses say of an error
+pub IfErr-both : {T E : Type 0} (r : Result T E) (P Q : E → Type 0) → IfErr r P → IfErr r Q → IfErr r (λ e. P e × Q e)
+IfErr-both (Ok x) P Q p q = tt
+IfErr-both (Err e) P Q p q = (p, q)
+
 -- the sketch that was made, and why none was, or why no image of it is written
 abbrev pub IsOf : Result SketchLayout Reason → Sketch → Type 0
 IsOf made y = MatchResult made (λ s. y ≡ sketch_of s) (λ _. ⊥)

@@ -8,8 +8,8 @@ use Rattle.hll_base.specs.declared.hll_type.HllType.{HllType}
 use Rattle.hll_coupons.specs.Hashed.{coupon_of_bytes}
 use Rattle.hll_coupons.specs.Pair.{pair, set_of}
 use Rattle.hll_sketch.specs.Checks.{first_failing, header_checks, checks_after, first_fault, size_fault}
-use Rattle.hll_sketch.specs.RegisterImages.{IsFilledImageWith}
-use Rattle.hll_sketch.specs.CouponImages.{IsImageOfUnion, IsImageOfUnionOfOne, AreBothRead, IsImageWith, IsFoldedImage}
+use Rattle.hll_images.specs.RegisterImages.{IsFilledImageWith}
+use Rattle.hll_images.specs.CouponImages.{IsImageOfUnion, IsImageOfUnionOfOne, AreBothRead, IsImageWith, IsFoldedImage}
 use Rattle.hll_sketch.specs.Adding.{add}
 use Rattle.hll_sketch.specs.Folding.{folded, IsFoldLgK}
 use Rattle.hll_sketch.specs.Image.{IsReadAs}

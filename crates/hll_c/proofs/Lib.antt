@@ -1,5 +1,6 @@
 -- SPDX-License-Identifier: Apache-2.0
 mod Agreement
+pub mod AtBound
 pub mod Answers
 pub mod Batches
 pub mod Codes

@@ -26,13 +26,15 @@ use Rattle.hll_state.specs.declared.header.Header.{Header}
 use Rattle.hll_state.specs.declared.header.CouponTable.{CouponTable}
 use Rattle.hll_state.specs.declared.join.Joined.{Joined}
 use Rattle.hll_state.proofs.Rooms.{staged_table}
-use Rattle.hll_state.proofs.States.{rest_borrowed, rest_written}
+use Rattle.hll_state.proofs.States.{means, read_at, rest_borrowed, rest_written}
 use Rattle.hll_state.proofs.Tables.{content-taken, content-staged}
-use Rattle.hll_c.specs.Answers.{IsImageOf}
+use Rattle.hll_c.specs.Answers.{IsImageOf, WithFields}
 use Rattle.hll_c.specs.Batches.{AreEndsFrom, strings}
+use Rattle.hll_c.specs.Calls.{bits_of}
 use Rattle.hll_c.specs.Estimates.{IsEstimateOfCoupons, IsEstimateOfContent}
-use Rattle.hll_c.specs.States.{IsBoundFor, least_bound, Joins, RefusesState, state_argument, state_register, state_memory}
+use Rattle.hll_c.specs.States.{IsBoundFor, least_bound, Joins, IsOfState, SaysEstimateOfState, RefusesState, state_argument, state_register, state_memory}
 use Rattle.hll_c.specs.declared.estimate.HllEstimate.{HllEstimate}
+use Rattle.hll_c.proofs.Answers.{made_with_fields}
 use Rattle.hll_c.proofs.Batches.{ends_here, strings_here, strings_end, coupons_from, length-strings}
 
 -- the coupons from an index on are left to be added
@@ -163,3 +165,17 @@ refuses_register InRange old e x in_range is of illegal =
 
 pub refuses_state_memory : (InRange : Type 0) (old : List (List ℕ)) (e : Reason) (x : Sketch) → InRange → e ≡ Memory → OfState old (λ y. y ≡ x) → RefusesState InRange old e
 refuses_state_memory InRange old e x in_range is of = subst (RefusesState InRange old) (sym is) (state_memory in_range of.was.state)
+
+-- the sketch of a state, as its elements are borrowed
+pub borrowed : (e : List (List ℕ)) (h : Header) → HasHeader e h → OfState e (λ x. x ≡ sketch_in h (mid_of 10 (length e - 10) e))
+borrowed e h has = read_at e e h (record { sketch = sketch_in h (drop 10 e); was = means e h has; is = refl })
+
+-- what is made of the sketch that a state has is made of the state: an image at a width, and an estimate
+pub image_at : (old : List (List ℕ)) (x : Sketch) (bits : ℕ) (w : HllType) (bytes : List ℕ) → OfState old (λ y. y ≡ x) → bits_of w ≡ bits → IsImageOf (FillsFields (record x { width = w })) bytes
+    → IsImageOf (WithFields (IsOfState bits old)) bytes
+image_at old x bits w bytes of asked is =
+    made_with_fields (IsOfState bits old) (record x { width = w }) bytes
+    (record { sketch = of.sketch; was = of.was; is = record { width_is = record { width = w; is = asked }; is = ap (λ (y : Sketch). record y { width = w }) (sym of.is) } }) is
+
+pub estimate_at : (old : List (List ℕ)) (x : Sketch) (e : HllEstimate) → OfState old (λ y. y ≡ x) → IsEstimateOfContent x.lg_k x.content e → SaysEstimateOfState old e
+estimate_at old x e of says = record { sketch = of.sketch; was = of.was; is = subst (λ (y : Sketch). IsEstimateOfContent y.lg_k y.content e) (sym of.is) says }

@@ -1,7 +1,7 @@
 -- SPDX-License-Identifier: Apache-2.0
 -- Calls that merge under one bound leave the state of a union.
-use Rattle.std.proofs.Common.{◌≡◌, ℕ, true, false, not, ◌&&◌, nat_eq, List, [], ◌∷◌, ◌++◌, drop, All, refl, sym, ap, subst, ◌∙◌, arith}
-use Rattle.std.proofs.lemmas.Bool.{ne_eqb, true≢false}
+use Rattle.std.proofs.Common.{◌≡◌, ℕ, false, not, ◌&&◌, nat_eq, List, [], ◌∷◌, ◌++◌, drop, All, refl, sym, ap, subst, ◌∙◌, arith}
+use Rattle.std.proofs.lemmas.Bool.{true≢false}
 use Rattle.std.proofs.lemmas.List.Elements.{All-nil, All-cons, All-head, All-tail}
 use Rattle.hll_sketch.specs.Image.{IsReadAs}
 use Rattle.hll_sketch.specs.Merging.{merge, merge_all, empty_union}
@@ -15,8 +15,9 @@ use Rattle.hll_state.proofs.States.{means}
 use Rattle.hll_state.proofs.Whole.{IsLegalGadget, merged_gadget, empty_gadget, joining_is_merging}
 use Rattle.hll_c.specs.Answers.{ok_code}
 use Rattle.hll_c.specs.States as states
-use Rattle.hll_c.specs.States.{MakesState, BeginsJoin, as_it_was, at_bound, JoinsSketch, JoinsImage, JoinsState, made, made_open, few_elements, no_lg_k, no_room_to_join, other_lg_k, image_read, image_not_read, state_read, no_states, register_above}
+use Rattle.hll_c.specs.States.{MakesState, JoinsUnder, as_it_was, at_bound, no_room_at_bound, JoinsSketch, JoinsImage, JoinsState, made, made_open, few_elements, no_lg_k, no_room_to_join, other_lg_k, image_read, image_not_read, state_read, no_states, register_above}
 use Rattle.hll_c.specs.Unions.{IsStateOfUnion, ExtendsUnion, ExtendsUnionByImage, ExtendsUnionByState}
+use Rattle.hll_c.proofs.AtBound.{bounded}
 use Rattle.hll_c.proofs.Codes.{no_ok}
 use Rattle.hll_c.proofs.Whole.{one_sketch}
 
@@ -41,9 +42,6 @@ made_union lg_k old new code (made_open none new_state) done lg_k_is = absurd (o
 made_union lg_k old new code (few_elements is few same) done lg_k_is = absurd (omega (arith, done))
 made_union lg_k old new code (no_lg_k none same) done lg_k_is = absurd (omega (arith, done))
 
-bounded : (bound : ℕ) → IsLgK bound → not (nat_eq bound 0) ≡ true
-bounded bound is = ap not (ne_eqb bound 0 (λ none. omega (arith, none, is.low)))
-
 pub extends : (bound others : ℕ) (y : Sketch) (old new : List (List ℕ)) (size_old size_new code : ℕ) → IsLegal y → JoinsSketch bound others y old new size_old size_new code → code ≡ ok_code → ExtendsUnion bound y old new
 extends bound others y old new size_old size_new code legal (states.joined joins lg_k_open sizes) done xs union =
     let h : Header = joins.before.header in
@@ -60,22 +58,23 @@ extends bound others y old new size_old size_new code legal (states.joined joins
 extends bound others y old new size_old size_new code legal (no_room_to_join len joins lg_k_open sizes) done xs union = absurd (omega (arith, done))
 extends bound others y old new size_old size_new code legal (other_lg_k joins same sizes) done xs union = absurd (omega (arith, done))
 
--- if the lg_k is not open, a join begins with the state as it was
-extends_begun : (bound : ℕ) (y : Sketch) (old begun new : List (List ℕ)) → is_open old ≡ false → BeginsJoin bound old begun → ExtendsUnion bound y begun new → ExtendsUnion bound y old new
-extends_begun bound y old begun new closed (as_it_was undecided same) extended = subst (λ e. ExtendsUnion bound y e new) same extended
-extends_begun bound y old begun new closed (at_bound decided is fresh) extended = absurd (true≢false (sym decided ∙ ap (λ b. b && not (nat_eq bound 0)) closed))
+-- if the lg_k is not open, no bound decides it
+extends_under : (bound others : ℕ) (y : Sketch) (old new : List (List ℕ)) (size_old size_new code : ℕ) → IsLegal y → JoinsUnder bound others y old new size_old size_new code → code ≡ ok_code → is_open old ≡ false
+    → ExtendsUnion bound y old new
+extends_under bound others y old new size_old size_new n legal (as_it_was {code} undecided joins) done closed = extends bound others y old new size_old size_new code legal joins done
+extends_under bound others y old new size_old size_new code legal (at_bound decided is begun fresh joins) done closed = absurd (true≢false (sym decided ∙ ap (λ b. b && not (nat_eq bound 0)) closed))
+extends_under bound others y old new size_old size_new code legal (no_room_at_bound decided len enough lacks same sizes) done closed = absurd (omega (arith, done))
 
 pub extends_by_image : (bound : ℕ) (image : List ℕ) (old new : List (List ℕ)) (size_old size_new code : ℕ) → ((y : Sketch) → IsReadAs image y → IsLegal y)
     → JoinsImage bound image old new size_old size_new code → code ≡ ok_code → is_open old ≡ false → ExtendsUnionByImage bound image old new
 extends_by_image bound image old new size_old size_new n legal (image_read {code} y read all) done closed =
-    record { sketch = y; read = read; extends = extends_begun bound y old all.begun new closed all.begins (extends bound (bit_of y.width) y all.begun new size_old size_new code (legal y read) all.joins done) }
+    record { sketch = y; read = read; extends = extends_under bound (bit_of y.width) y old new size_old size_new code (legal y read) all done closed }
 extends_by_image bound image old new size_old size_new n legal (image_not_read {r} refused needed same sizes) done closed = absurd (no_ok r done)
 
 pub extends_by_state : (bound : ℕ) (other old new : List (List ℕ)) (size_old size_new code : ℕ) → JoinsState bound other old new size_old size_new code → code ≡ ok_code → is_open old ≡ false
     → ExtendsUnionByState bound other old new
 extends_by_state bound other old new size_old size_new n (state_read {code} h has all) done closed y is legal =
     let same : sketch_in h (drop 10 other) ≡ y = one_sketch other (sketch_in h (drop 10 other)) y (means other h has) is in
-    extends_begun bound y old all.begun new closed all.begins
-    (extends bound h.widths y all.begun new size_old size_new code legal (subst (λ y. JoinsSketch bound h.widths y all.begun new size_old size_new code) same all.joins) done)
+    extends_under bound h.widths y old new size_old size_new code legal (subst (λ y. JoinsUnder bound h.widths y old new size_old size_new code) same all) done closed
 extends_by_state bound other old new size_old size_new n (no_states none same sizes) done closed y is legal = absurd (omega (arith, done))
 extends_by_state bound other old new size_old size_new n (register_above under illegal same sizes) done closed y is legal = absurd (omega (arith, done))

@@ -20,7 +20,7 @@ use Rattle.hll_state.proofs.States.{one_header, means}
 use Rattle.hll_state.proofs.Whole.{empty_whole, added_whole, merged_whole}
 use Rattle.hll_c.specs.ByteRegisters.{HaveValues}
 use Rattle.hll_c.specs.Answers.{ok_code}
-use Rattle.hll_c.specs.States.{IsNewState, MakesState, BeginsJoin, as_it_was, at_bound, AddsToState, JoinsSketch, JoinsImage, JoinsState, added, no_room, not_added, joined, no_room_to_join, other_lg_k, image_read, image_not_read, state_read, no_states, register_above, made, made_open, few_elements, no_lg_k}
+use Rattle.hll_c.specs.States.{IsNewState, MakesState, JoinsUnder, as_it_was, at_bound, no_room_at_bound, AddsToState, JoinsSketch, JoinsImage, JoinsState, added, no_room, not_added, joined, no_room_to_join, other_lg_k, image_read, image_not_read, state_read, no_states, register_above, made, made_open, few_elements, no_lg_k}
 
 -- ---- pairs
 
@@ -88,22 +88,23 @@ leaves_joined lg_max_k others y old new size_old size_new code legal (no_room_to
     }
 leaves_joined lg_max_k others y old new size_old size_new code legal (other_lg_k joins same sizes) whole = same_whole old new same whole
 
--- a join begins with such a state
-leaves_begun : (lg_max_k : ℕ) (old begun : List (List ℕ)) → BeginsJoin lg_max_k old begun → LeavesWhole old begun
-leaves_begun lg_max_k old begun (as_it_was undecided same) whole = same_whole old begun same whole
-leaves_begun lg_max_k old begun (at_bound decided is fresh) whole = new_whole lg_max_k false begun is fresh
+leaves_under : (lg_max_k others : ℕ) (y : Sketch) (old new : List (List ℕ)) (size_old size_new code : ℕ) → IsLegal y → JoinsUnder lg_max_k others y old new size_old size_new code → LeavesWhole old new
+leaves_under lg_max_k others y old new size_old size_new n legal (as_it_was {code} undecided joins) whole = leaves_joined lg_max_k others y old new size_old size_new code legal joins whole
+leaves_under lg_max_k others y old new size_old size_new code legal (at_bound decided is begun fresh joins) whole =
+    leaves_joined lg_max_k others y begun new size_old size_new ok_code legal joins (new_whole lg_max_k false begun is fresh)
+leaves_under lg_max_k others y old new size_old size_new code legal (no_room_at_bound decided len enough lacks same sizes) whole = same_whole old new same whole
 
 pub leaves_image : (lg_max_k : ℕ) (image : List ℕ) (old new : List (List ℕ)) (size_old size_new code : ℕ) → ((y : Sketch) → IsReadAs image y → IsLegal y)
     → JoinsImage lg_max_k image old new size_old size_new code → LeavesWhole old new
 leaves_image lg_max_k image old new size_old size_new n legal (image_read {code} y read all) whole =
-    leaves_joined lg_max_k (bit_of y.width) y all.begun new size_old size_new code (legal y read) all.joins (leaves_begun lg_max_k old all.begun all.begins whole)
+    leaves_under lg_max_k (bit_of y.width) y old new size_old size_new code (legal y read) all whole
 leaves_image lg_max_k image old new size_old size_new code legal (image_not_read refused needed same sizes) whole = same_whole old new same whole
 
 pub leaves_state : (lg_max_k : ℕ) (other old new : List (List ℕ)) (size_old size_new code : ℕ) → OfState other IsWhole → JoinsState lg_max_k other old new size_old size_new code → LeavesWhole old new
 leaves_state lg_max_k other old new size_old size_new n is (state_read {code} h has all) whole =
     let y : Sketch = sketch_in h (drop 10 other) in
     let legal : IsLegal y = (whole_as other y (means other h has) is).legal in
-    leaves_joined lg_max_k h.widths y all.begun new size_old size_new code legal all.joins (leaves_begun lg_max_k old all.begun all.begins whole)
+    leaves_under lg_max_k h.widths y old new size_old size_new code legal all whole
 leaves_state lg_max_k other old new size_old size_new code is (no_states none same sizes) whole = same_whole old new same whole
 leaves_state lg_max_k other old new size_old size_new code is (register_above under illegal same sizes) whole = same_whole old new same whole
 

@@ -4,6 +4,7 @@ use Rattle.std.specs.Prelude.{◌≡◌, ℕ, ◌≤◌, ◌<◌, List, ◌++◌
 use Rattle.hll_base.specs.Reason.{number_of}
 use Rattle.hll_base.specs.declared.error.Reason.{Reason}
 use Rattle.hll_base.specs.declared.error.Reason.TheVariants.{Argument, Memory}
+use Rattle.hll_images.specs.RegisterImages.{IsPlainImage}
 use Rattle.hll_sketch.specs.ByteRegisters.{ReadNeedsMemory}
 use Rattle.hll_sketch.specs.Checks.{first_fault, size_fault}
 use Rattle.hll_sketch.specs.EstimatorFields.{FillsFields}
@@ -69,6 +70,11 @@ pub data RefusesImage (image : List ℕ) : Reason → Type 0 where
 pub data RefusesWith (InRange : Type 0) (image : List ℕ) : Reason → Type 0 where
   argument_with_image : (InRange → ⊥) → RefusesWith InRange image Argument
   image_refused : {r : Reason} → InRange → RefusesImage image r → RefusesWith InRange image r
+
+-- An argument is out of range, or the image is rejected; never with `Memory` for 8-bit or 6-bit registers, if the result can be
+-- written from the registers in place.
+abbrev pub RefusesInPlace : Type 0 → Type 0 → List ℕ → Reason → Type 0
+RefusesInPlace InRange InPlace image r = RefusesWith InRange image r × (r ≡ Memory → IsPlainImage image → InPlace → ⊥)
 
 -- The image is rejected; with `Memory` only if reading it may need an allocation.
 abbrev pub RefusesTested : List ℕ → Reason → Type 0

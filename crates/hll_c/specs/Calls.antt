@@ -12,7 +12,7 @@ use Rattle.hll_sketch.specs.Adding.{add}
 use Rattle.hll_sketch.specs.Agree.{Agree}
 use Rattle.hll_sketch.specs.EstimatorFields.{cleared}
 use Rattle.hll_sketch.specs.Folding.{folded, IsFoldLgK}
-use Rattle.hll_sketch.specs.Image.{IsReadAs}
+use Rattle.hll_sketch.specs.Image.{IsReadAs, width_bits, width_of_bits}
 use Rattle.hll_sketch.specs.Laws.{add_in_turn}
 use Rattle.hll_sketch.specs.Merging.{merge_all, empty_union}
 use Rattle.hll_sketch.specs.Value.{Sketch, IsLgK, empty_sketch}
@@ -44,6 +44,10 @@ AsksWidth bits = IsWidth bits ⊎ (bits ≡ 0)
 pub data IsAskedWidth (bits : ℕ) (given : HllType) : HllType → Type 0 where
   of_bits : {width : HllType} → bits_of width ≡ bits → IsAskedWidth bits given width
   as_given : bits ≡ 0 → IsAskedWidth bits given given
+
+-- the number asks for the width of the image
+abbrev pub AsksOwnWidth : ℕ → List ℕ → Type 0
+AsksOwnWidth bits image = IsAskedWidth bits (width_of_bits (width_bits image)) (width_of_bits (width_bits image))
 
 -- ---- an empty sketch
 

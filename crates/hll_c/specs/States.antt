@@ -1,6 +1,6 @@
 -- SPDX-License-Identifier: Apache-2.0
 -- What calls do with states in caller-owned memory (docs/MODEL.md, "States of a counter").
-use Rattle.std.specs.Prelude.{◌≡◌, ◌≢◌, ℕ, ◌*◌, ◌<◌, ◌≤◌, ◌==◌, ◌⊎◌, ◌&&◌, Bool, true, false, not, if◌then◌else◌, List, length, drop}
+use Rattle.std.specs.Prelude.{◌≡◌, ◌≢◌, ℕ, ◌-◌, ◌*◌, ◌<◌, ◌≤◌, ◌==◌, ◌⊎◌, ◌&&◌, Bool, true, false, not, if◌then◌else◌, List, length, drop}
 use Rattle.hll_base.specs.Reason.{number_of}
 use Rattle.hll_base.specs.declared.error.Reason.{Reason}
 use Rattle.hll_base.specs.declared.error.Reason.TheVariants.{Argument, Memory, Register}
@@ -10,9 +10,10 @@ use Rattle.hll_sketch.specs.Image.{IsReadAs}
 use Rattle.hll_sketch.specs.Laws.{add_in_turn}
 use Rattle.hll_sketch.specs.Value.{Sketch, IsLgK, IsLegal, is_empty, empty_sketch}
 use Rattle.hll_state.specs.Counter.{sketch_in}
-use Rattle.hll_state.specs.Joined.{IsJoined}
-use Rattle.hll_state.specs.Memory.{HasHeader, IsState, IsStateOf, OfState, HasWidths, HasRoomIn, AreEnough, is_open}
-use Rattle.hll_state.specs.Merged.{bit_of}
+use Rattle.hll_state.specs.Header.{new_header}
+use Rattle.hll_state.specs.Joined.{IsJoined, AreEnoughToMerge}
+use Rattle.hll_state.specs.Memory.{HasHeader, IsState, IsStateOf, OfState, HasWidths, HasRoomIn, AreEnough, IsSettled, is_open}
+use Rattle.hll_state.specs.Merged.{bit_of, HasRoomToMerge}
 use Rattle.hll_state.specs.declared.header.Header.{Header}
 use Rattle.hll_state.specs.declared.join.Joined.{Joined}
 use Rattle.hll_state.specs.declared.join.Joined.TheVariants.{Done, NoRoom, OtherLgK}
@@ -84,6 +85,10 @@ IsOfState bits old y = OfState old (λ x. HasWidthOfBits bits x y)
 abbrev pub RefusesEstimateOfState : List (List ℕ) → Reason → Type 0
 RefusesEstimateOfState elements r = RefusesState (Unit {0}) elements r × (r ≢ Memory)
 
+-- nor does an estimate of a settled state
+abbrev pub RefusesEstimateOfSettled : List (List ℕ) → Reason → Type 0
+RefusesEstimateOfSettled elements r = RefusesState (IsSettled elements) elements r × (r ≢ Memory)
+
 -- what is reported of a state
 abbrev pub SaysEstimateOfState : List (List ℕ) → HllEstimate → Type 0
 SaysEstimateOfState old e = OfState old (λ x. IsEstimateOfContent x.lg_k x.content e)
@@ -112,11 +117,6 @@ pub record IsStateUnder (lg_max_k : ℕ) (elements : List (List ℕ)) : Type 0 w
 abbrev pub is_decided : ℕ → List (List ℕ) → Bool
 is_decided lg_max_k elements = is_open elements && not (lg_max_k == 0)
 
--- the state into which a sketch is merged: as it was; or, if the bound decides its lg_k, a new state of that lg_k
-pub data BeginsJoin (lg_max_k : ℕ) (old begun : List (List ℕ)) : Type 0 where
-  as_it_was : is_decided lg_max_k old ≡ false → begun ≡ old → BeginsJoin lg_max_k old begun
-  at_bound : is_decided lg_max_k old ≡ true → IsLgK lg_max_k → IsNewState lg_max_k false begun → BeginsJoin lg_max_k old begun
-
 -- a state before and after a sketch is merged into it
 pub record Joins (lg_max_k others : ℕ) (y : Sketch) (old new : List (List ℕ)) (answer : Joined) : Type 0 where
   pub before : IsStateUnder lg_max_k old
@@ -133,23 +133,26 @@ pub data JoinsSketch (lg_max_k others : ℕ) (y : Sketch) (old new : List (List 
       → JoinsSketch lg_max_k others y old new size_old size_new buffer_code
   other_lg_k : Joins lg_max_k others y old new OtherLgK → new ≡ old → size_new ≡ size_old → JoinsSketch lg_max_k others y old new size_old size_new other_lg_k_code
 
--- a sketch is merged into the state that a join begins with
-pub record BeginsAndJoins (lg_max_k others : ℕ) (y : Sketch) (old new : List (List ℕ)) (size_old size_new code : ℕ) : Type 0 where
-  pub begun : List (List ℕ)
-  pub begins : BeginsJoin lg_max_k old begun
-  pub joins : JoinsSketch lg_max_k others y begun new size_old size_new code
+-- A sketch is merged in. If the bound decides the lg_k of the state, which is empty then, the sketch is merged into a new state of
+-- that lg_k. Or there is not enough room there, the size becomes a number of bytes that is enough, and nothing changes.
+pub data JoinsUnder (lg_max_k others : ℕ) (y : Sketch) (old new : List (List ℕ)) (size_old size_new : ℕ) : ℕ → Type 0 where
+  as_it_was : {code : ℕ} → is_decided lg_max_k old ≡ false → JoinsSketch lg_max_k others y old new size_old size_new code → JoinsUnder lg_max_k others y old new size_old size_new code
+  at_bound : is_decided lg_max_k old ≡ true → IsLgK lg_max_k → (begun : List (List ℕ)) → IsNewState lg_max_k false begun → JoinsSketch lg_max_k others y begun new size_old size_new ok_code
+      → JoinsUnder lg_max_k others y old new size_old size_new ok_code
+  no_room_at_bound : is_decided lg_max_k old ≡ true → (len : ℕ) → AreEnoughToMerge y (new_header lg_max_k) len → (HasRoomToMerge (new_header lg_max_k) y (length old - 10) → ⊥) → new ≡ old → size_new ≡ 4 * len
+      → JoinsUnder lg_max_k others y old new size_old size_new buffer_code
 
 -- The sketch of an image is merged in; or an argument is out of range, the elements are not a state or the image is rejected,
 -- and nothing changes.
 pub data JoinsImage (lg_max_k : ℕ) (image : List ℕ) (old new : List (List ℕ)) (size_old size_new : ℕ) : ℕ → Type 0 where
-  image_read : {code : ℕ} → (y : Sketch) → IsReadAs image y → BeginsAndJoins lg_max_k (bit_of y.width) y old new size_old size_new code → JoinsImage lg_max_k image old new size_old size_new code
+  image_read : {code : ℕ} → (y : Sketch) → IsReadAs image y → JoinsUnder lg_max_k (bit_of y.width) y old new size_old size_new code → JoinsImage lg_max_k image old new size_old size_new code
   image_not_read : {r : Reason} → RefusesWith (IsStateUnder lg_max_k old) image r → (r ≡ Memory → ReadNeedsMemory image) → new ≡ old → size_new ≡ size_old
       → JoinsImage lg_max_k image old new size_old size_new (number_of r)
 
 -- The sketch of another state is merged in; or an argument is out of range, one of the two is not a state, or the other one
 -- means a sketch that is not legal, and nothing changes.
 pub data JoinsState (lg_max_k : ℕ) (other old new : List (List ℕ)) (size_old size_new : ℕ) : ℕ → Type 0 where
-  state_read : {code : ℕ} → (h : Header) → HasHeader other h → BeginsAndJoins lg_max_k h.widths (sketch_in h (drop 10 other)) old new size_old size_new code
+  state_read : {code : ℕ} → (h : Header) → HasHeader other h → JoinsUnder lg_max_k h.widths (sketch_in h (drop 10 other)) old new size_old size_new code
       → JoinsState lg_max_k other old new size_old size_new code
   no_states : (IsStateUnder lg_max_k old × IsState other → ⊥) → new ≡ old → size_new ≡ size_old → JoinsState lg_max_k other old new size_old size_new (number_of Argument)
   register_above : IsStateUnder lg_max_k old → OfState other (λ y. IsLegal y → ⊥) → new ≡ old → size_new ≡ size_old → JoinsState lg_max_k other old new size_old size_new (number_of Register)

@@ -1,22 +1,22 @@
 // SPDX-License-Identifier: Apache-2.0
 //! The calls over images.
-ghost use Rattle.std.specs.Prelude.{◌≡◌, ◌≢◌, ◌≤◌, ◌⊎◌, ◌↔◌, ◌∷◌, [], min, length, map, IsTrue, IfSome, IfOk, IfErr, OnOk, OnErr};
+ghost use Rattle.std.specs.Prelude.{◌≡◌, ◌≢◌, ◌≤◌, ◌⊎◌, ◌↔◌, ◌∷◌, [], min, length, map, IsTrue, IfSome, IfNone, IfOk, IfErr, OnOk, OnErr};
 ghost use Rattle.hll_base.specs.declared.error.Reason.TheVariants as reasons;
 ghost use Rattle.hll_coupons.specs.Hashed.{coupon_of_bytes};
 ghost use Rattle.hll_coupons.specs.Pair.{set_of, value_of};
 ghost use Rattle.hll_sketch.specs.Adding.{add};
-ghost use Rattle.hll_sketch.specs.BorrowedRegisters.{lg_k_of, values_of, AreWhole};
+ghost use Rattle.hll_images.specs.BorrowedRegisters.{lg_k_of, values_of, AreWhole};
 ghost use Rattle.hll_sketch.specs.ByteRegisters.{AreRegistersOf};
-ghost use Rattle.hll_sketch.specs.CouponImages.{IsImageWith};
+ghost use Rattle.hll_images.specs.CouponImages.{IsImageWith};
 ghost use Rattle.hll_sketch.specs.EstimatorFields.{SetsFields};
-ghost use Rattle.hll_sketch.specs.Image.{IsReadAs, IsSizeOfImage, width_bits, width_of_bits};
+ghost use Rattle.hll_sketch.specs.Image.{IsReadAs, IsSizeOfImage, stage_bits, width_bits, width_of_bits};
 ghost use Rattle.hll_sketch.specs.Laws.{add_in_turn};
 ghost use Rattle.hll_sketch.specs.Layout.{sketch_of};
-ghost use Rattle.hll_sketch.specs.RegisterImages.{IsFilledImageWith};
+ghost use Rattle.hll_images.specs.RegisterImages.{IsFilledImageWith, IsPlainImage};
 ghost use Rattle.hll_sketch.specs.Value.{Sketch, IsLgK};
 ghost use Rattle.hll_c.specs.Answers.{IsImageOf, WithFields, RefusesArguments, RefusesImage, RefusesTested, RefusesWith, RefusesImages};
 ghost use Rattle.hll_c.specs.Batches.{AreEnds, strings};
-ghost use Rattle.hll_c.specs.Calls.{bit, AreNewArguments, IsEmptyAt, IsMadeOf, IsFoldOf, RefusesFold, HasWidth, IsAtWidth, AsksWidth, IsCleared, AreOfCoupon, HasCoupon, HasValues, SaysAgreement};
+ghost use Rattle.hll_c.specs.Calls.{bit, AreNewArguments, IsEmptyAt, IsMadeOf, IsFoldOf, RefusesFold, HasWidth, IsAtWidth, AsksWidth, AsksOwnWidth, IsCleared, AreOfCoupon, HasCoupon, HasValues, SaysAgreement};
 ghost use Rattle.hll_c.specs.Steps.{IsRefusedAt};
 ghost use Rattle.hll_c.specs.BytesOrParts.{bytes_of};
 
@@ -28,13 +28,13 @@ use hll_base::error::{Error, Reason};
 use hll_base::hll_type::HllType;
 use hll_coupons::coupon::Coupon;
 use hll_coupons::serialization::{TGT_HLL4, TGT_HLL6, extract_tgt_hll_type};
+use hll_images::borrowed_registers::BorrowedRegisters;
+use hll_images::coupon_images::coupon_image_with;
+use hll_images::{coupon_image_at, folded_coupon_image, register_image_at, register_image_with};
 use hll_registers::image_parts::ImageParts;
-use hll_sketch::borrowed_registers::BorrowedRegisters;
-use hll_sketch::coupon_images::{coupon_image_with, says_registers};
+use hll_sketch::HllSketch;
+use hll_sketch::header::says_registers;
 use hll_sketch::image_head::size_of_image;
-use hll_sketch::{
-    HllSketch, coupon_image_at, folded_coupon_image, register_image_at, register_image_with,
-};
 use std::alloc::Global;
 
 /// The number of byte strings whose coupons are computed before they are added to a sketch.
@@ -110,6 +110,7 @@ pub(crate) fn with_coupon(
 ) -> Result<BytesOrParts<'_>, Error>
     ensures ok { IfOk result (λ written. IsImageOf (WithFields (IsMadeOf image.now (HasCoupon slot value))) (bytes_of written)) }
     ensures err { IfErr result (λ e. RefusesWith (AreOfCoupon slot value) image.now e) }
+    ensures memory { IfErr result (λ e. e ≡ reasons.Memory → IsPlainImage image.now → Unit {0} → ⊥) }
 {
     if !are_of_coupon(slot, value) {
         return Err(Error::new(Reason::Argument));
@@ -153,6 +154,7 @@ pub(crate) fn with_values<'a>(
 ) -> Result<BytesOrParts<'a>, Error>
     ensures ok { IfOk result (λ written. IsImageOf (WithFields (IsMadeOf image.now (HasValues values.now ends.now))) (bytes_of written)) }
     ensures err { IfErr result (λ e. RefusesWith (AreEnds (length values.now) ends.now) image.now e) }
+    ensures memory { IfErr result (λ e. e ≡ reasons.Memory → IsPlainImage image.now → length ends.now ≤ 1 → ⊥) }
 {
     if !are_ends(ends, values.len()) {
         return Err(Error::new(Reason::Argument));
@@ -176,7 +178,8 @@ fn register_image_with_values<'a>(
     ends: &[usize],
 ) -> Option<ImageParts<'a>>
     requires { AreEnds (length values.now) ends.now }
-    ensures { IfSome result (λ written. IsFilledImageWith (map coupon_of_bytes (strings values.now ends.now)) image.now written) }
+    ensures some { IfSome result (λ written. IsFilledImageWith (map coupon_of_bytes (strings values.now ends.now)) image.now written) }
+    ensures none { IfNone result (IsPlainImage image.now → length ends.now ≤ 1 → ⊥) }
 {
     if FEW < ends.len() {
         return None;
@@ -199,6 +202,7 @@ fn coupon_image_with_values(
     requires { AreEnds (length values.now) ends.now }
     ensures some { IfOk result (λ found. IfSome found (λ written. IsImageWith (map coupon_of_bytes (strings values.now ends.now)) image.now written.items)) }
     ensures read { OnErr result ((x : Sketch) × IsReadAs image.now x) }
+    ensures coupons { OnErr result (stage_bits image.now ≡ 2 → ⊥) }
     ensures err { IfErr result (λ e. e ≡ reasons.Memory) }
 {
     if ends.is_empty() || BLOCK < ends.len() || says_registers(image) {
@@ -268,6 +272,7 @@ fn folded_sketch(alloc: Global, image: &[u8], lg_k: u8) -> Result<HllSketch, Err
 pub(crate) fn converted(alloc: Global, image: &[u8], width: u32) -> Result<BytesOrParts<'_>, Error>
     ensures ok { IfOk result (λ written. IsImageOf (WithFields (IsMadeOf image.now (IsAtWidth width))) (bytes_of written)) }
     ensures err { IfErr result (λ e. RefusesWith (AsksWidth width) image.now e) }
+    ensures memory { IfErr result (λ e. e ≡ reasons.Memory → IsPlainImage image.now → AsksOwnWidth width image.now → ⊥) }
 {
     let hll_type = asked_width(width, width_in_header(image))?;
     if let Some(written) = coupon_image_at(alloc, hll_type, image)? {

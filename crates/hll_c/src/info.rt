@@ -9,11 +9,11 @@ ghost use Rattle.hll_c.specs.Info.{IsInfoOf, SaysInfo, AreCountsOf, SaysHistogra
 use hll_base::error::{Error, Reason};
 use hll_base::hll_type::HllType;
 use hll_coupons::serialization::LG_LIST_BUCKETS;
+use hll_images::image_registers::registers_of_image;
 use hll_registers::registers::Use;
 use hll_sketch::Totals;
 use hll_sketch::borrowed_image::BorrowedImage;
 use hll_sketch::coupon_room::CouponRoom;
-use hll_sketch::image_registers::registers_of_image;
 use std::alloc::Global;
 
 /// The size of `HllInfo` in bytes.

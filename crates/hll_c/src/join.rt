@@ -1,13 +1,13 @@
 // SPDX-License-Identifier: Apache-2.0
 //! Merges images and states into states of counters.
-ghost use Rattle.std.specs.Prelude.{◌≡◌, ◌*◌, ◌≤◌, ◌<◌, ◌^◌, ◌↔◌, ◌==◌, ◌&&◌, not, IsTrue, IfSome, IfNone, length, drop};
+ghost use Rattle.std.specs.Prelude.{◌≡◌, ◌*◌, ◌≤◌, ◌<◌, ◌^◌, ◌↔◌, ◌==◌, ◌&&◌, not, IsTrue, IfSome, IfNone, length, drop, true};
 ghost use Rattle.hll_sketch.specs.BorrowedImage.{sketch_of_borrowed};
-ghost use Rattle.hll_sketch.specs.Value.{is_empty};
+ghost use Rattle.hll_sketch.specs.Value.{is_empty, IsLgK};
 ghost use Rattle.hll_state.specs.CouponRun.{raws};
 ghost use Rattle.hll_state.specs.Header.{header_of};
 ghost use Rattle.hll_state.specs.Memory.{HasHeader, IsOnlyRead};
 ghost use Rattle.hll_state.specs.Memory.{is_open as is_lg_k_open};
-ghost use Rattle.hll_c.specs.States.{IsBoundFor, least_bound, IsStateUnder, BeginsJoin, BeginsAndJoins, JoinsSketch, JoinsImage, JoinsState};
+ghost use Rattle.hll_c.specs.States.{IsBoundFor, least_bound, IsStateUnder, is_decided, JoinsSketch, JoinsUnder, JoinsImage, JoinsState};
 
 use crate::answer::{BUFFER, OK};
 use crate::state::{make, too_small};
@@ -88,25 +88,35 @@ fn join(
     requires has { HasHeader state.old header }
     requires bound { IsBoundFor lg_max_k (least_bound state.old header.lg_k) }
     requires widths { widths < 8 }
-    ensures { BeginsAndJoins lg_max_k widths (sketch_of_borrowed image.now) state.old state.new size.old size.new result }
+    ensures { JoinsUnder lg_max_k widths (sketch_of_borrowed image.now) state.old state.new size.old size.new result }
 {
-    let begun = begin_join(header, lg_max_k, state);
-    join_begun(begun, lg_max_k, state, size, widths, image)
+    if lg_max_k != 0 && is_open(state) {
+        return join_at_bound(lg_max_k, state, size, widths, image);
+    }
+    join_begun(header, lg_max_k, state, size, widths, image)
 }
 
-/// Makes the state that a join begins with, and returns its header: if the bound decides the `lg_k` of a state, a new state.
-#[inline(always)]
-fn begin_join(header: Header, lg_max_k: u32, state: &mut [[u8; 4]]) -> Header
-    requires has { HasHeader state.old header }
-    requires bound { IsBoundFor lg_max_k (least_bound state.old header.lg_k) }
-    ensures begun { BeginsJoin lg_max_k state.old state.new }
-    ensures has { HasHeader state.new result }
-    ensures bound { IsBoundFor lg_max_k (least_bound state.new result.lg_k) }
+/// Merges a sketch into an empty state whose open `lg_k` the bound decides. The state is as it was if it has too little room.
+#[inline(never)]
+fn join_at_bound(
+    lg_max_k: u32,
+    state: &mut [[u8; 4]],
+    size: &mut usize,
+    widths: u8,
+    image: &BorrowedImage<'_, Global>,
+) -> u8
+    requires there { 10 ≤ length state.old }
+    requires bound { IsLgK lg_max_k }
+    requires decided { is_decided lg_max_k state.old ≡ true }
+    requires widths { widths < 8 }
+    ensures { JoinsUnder lg_max_k widths (sketch_of_borrowed image.now) state.old state.new size.old size.new result }
 {
-    if lg_max_k == 0 || !is_open(state) {
-        return header;
+    let header = Header::new(lg_max_k as u8);
+    if !header.has_room_to_merge(state.len() - HEADER_LEN, image) {
+        return too_small(header.len_to_merge(image), size);
     }
-    make(lg_max_k as u8, false, state)
+    let begun = make(lg_max_k as u8, false, state);
+    join_begun(begun, lg_max_k, state, size, widths, image)
 }
 
 /// Merges a sketch into a state whose header was read, and writes its header. The bound has decided an open `lg_k`.

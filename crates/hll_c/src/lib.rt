@@ -14,20 +14,20 @@
 //! and for its result, and frees all of it before it returns. If an allocation fails, the reason is `Memory`.
 #![tactic(auto)]
 
-ghost use Rattle.std.specs.Prelude.{◌≡◌, ◌∷◌, [], ℕ, false, length, map};
+ghost use Rattle.std.specs.Prelude.{◌≡◌, ◌≤◌, ◌∷◌, [], ℕ, false, length, map};
 ghost use Rattle.hll_coupons.specs.Hashed.{coupon_of_bytes};
 ghost use Rattle.hll_sketch.specs.EstimatorFields.{SetsFields};
 ghost use Rattle.hll_sketch.specs.Image.{IsReadAs, IsSizeOfImage};
 ghost use Rattle.hll_sketch.specs.Value.{Sketch, IsLgK};
-ghost use Rattle.hll_c.specs.Answers.{Answers, IsImageOf, PutsBytes, Reports, Tests, RefusesArguments, RefusesImage, RefusesInfo, RefusesTested, RefusesWith, RefusesImages};
+ghost use Rattle.hll_c.specs.Answers.{Answers, IsImageOf, PutsBytes, Reports, Tests, RefusesArguments, RefusesImage, RefusesInfo, RefusesInPlace, RefusesTested, RefusesImages};
 ghost use Rattle.hll_c.specs.Batches.{AreEnds, strings, AreOfLength, strings_of_length, AreOffsets, strings_between};
 ghost use Rattle.hll_c.specs.ByteRegisters.{HaveValues, MergesImageInto, MergesRegistersInto, AddsValues, AddsStrings, AddsCoupons, FoldsInPlace, RefusesRegisters, SaysCounts, IsOfBytes, RefusesBytes};
-ghost use Rattle.hll_c.specs.Calls.{AreNewArguments, IsEmptyAt, IsMadeOf, IsFoldOf, RefusesFold, AsksWidth, IsWidth, IsAtWidth, IsCleared, AreOfCoupon, HasCoupon, HasValues, AreUnionArguments, IsUnionOf, AreBatchArguments, IsUnionOfBatch, SaysAgreement, PutsCoupons, PutsCouponsOf};
+ghost use Rattle.hll_c.specs.Calls.{AreNewArguments, IsEmptyAt, IsMadeOf, IsFoldOf, RefusesFold, AsksWidth, AsksOwnWidth, IsWidth, IsAtWidth, IsCleared, AreOfCoupon, HasCoupon, HasValues, AreUnionArguments, IsUnionOf, AreBatchArguments, IsUnionOfBatch, SaysAgreement, PutsCoupons, PutsCouponsOf};
 ghost use Rattle.hll_c.specs.Estimates.{SaysEstimate, SaysEstimateOfBytes, SaysEstimateOfCounts, RefusesCounts};
 ghost use Rattle.hll_c.specs.Head.{SaysHead, RefusesHead};
 ghost use Rattle.hll_c.specs.Info.{SaysInfo, SaysHistogram};
 ghost use Rattle.hll_c.specs.StateInfo.{SaysStateInfo, RefusesStateInfo};
-ghost use Rattle.hll_c.specs.States.{MakesState, TakesValues, AddsToState, IsOfState, SaysEstimateOfState, RefusesEstimateOfState, RefusesState, JoinsImage, JoinsState};
+ghost use Rattle.hll_c.specs.States.{MakesState, TakesValues, AddsToState, IsOfState, SaysEstimateOfState, RefusesEstimateOfState, RefusesEstimateOfSettled, RefusesState, JoinsImage, JoinsState};
 ghost use Rattle.hll_state.specs.Memory.{OfState, IsOnlyRead, IsSettled, KeepsWidths, is_open};
 ghost use Rattle.hll_state.specs.Whole.{IsWhole, LeavesWhole};
 ghost use Rattle.hll_c.specs.Unions.{IsStateOfUnion, ExtendsUnionByImage, ExtendsUnionByState};
@@ -168,7 +168,7 @@ pub extern "C" fn hll_image_add(
     out: &mut [u8],
     size: &mut usize,
 ) -> u8
-    ensures { Answers (IsMadeOf image.now (HasValues values.now ends.now)) (RefusesWith (AreEnds (length values.now) ends.now) image.now) out.old out.new size.old size.new result }
+    ensures { Answers (IsMadeOf image.now (HasValues values.now ends.now)) (RefusesInPlace (AreEnds (length values.now) ends.now) (length ends.now ≤ 1) image.now) out.old out.new size.old size.new result }
 {
     put_bytes_or_parts(image::with_values(alloc, image, values, ends), out, size)
 }
@@ -188,7 +188,7 @@ pub extern "C" fn hll_image_add_coupon(
     out: &mut [u8],
     size: &mut usize,
 ) -> u8
-    ensures { Answers (IsMadeOf image.now (HasCoupon slot value)) (RefusesWith (AreOfCoupon slot value) image.now) out.old out.new size.old size.new result }
+    ensures { Answers (IsMadeOf image.now (HasCoupon slot value)) (RefusesInPlace (AreOfCoupon slot value) (Unit {0}) image.now) out.old out.new size.old size.new result }
 {
     put_bytes_or_parts(image::with_coupon(alloc, image, slot, value), out, size)
 }
@@ -298,7 +298,7 @@ pub extern "C" fn hll_image_convert(
     out: &mut [u8],
     size: &mut usize,
 ) -> u8
-    ensures { Answers (IsMadeOf image.now (IsAtWidth width)) (RefusesWith (AsksWidth width) image.now) out.old out.new size.old size.new result }
+    ensures { Answers (IsMadeOf image.now (IsAtWidth width)) (RefusesInPlace (AsksWidth width) (AsksOwnWidth width image.now) image.now) out.old out.new size.old size.new result }
 {
     put_bytes_or_parts(image::converted(alloc, image, width), out, size)
 }
@@ -594,7 +594,7 @@ pub extern "C" fn hll_state_add_coupons(
 ///
 /// `lg_max_k` is 0 for no bound, or an `lg_k` of at least the state's. Without a bound, an empty state takes the `lg_k` of an
 /// image that isn't empty, or of an empty image if that is greater. If the `lg_k` of the state is open, a bound may be any
-/// `lg_k`: the state first becomes a new one of that `lg_k`. Without a bound, an image that isn't empty decides it.
+/// `lg_k`: then the state is a new one of that `lg_k`. Without a bound, an image that isn't empty decides it.
 ///
 /// Returns 16 if there is no bound, neither the state nor the image is empty, and their `lg_k` differ. Returns 14 if there is
 /// not enough room, and sets `size` to a number of bytes that is enough. Returns `Argument` if `lg_max_k` is out of range or the
@@ -679,4 +679,33 @@ pub extern "C" fn hll_state_estimate(state: &mut [[u8; 4]], estimate: &mut HllEs
     ensures settled { result ≡ 0 → IsSettled state.new }
 {
     report(state::estimate_of(state), estimate)
+}
+
+/// Writes the image of the sketch of a settled state into `out`, as `hll_state_image` does. A state is settled after a call that
+/// read it returned 0, until something is added or merged. The state is only read: no byte of it is written.
+///
+/// Returns `Argument` if `width` is not 4, 6 or 8 or the elements are not a settled state, `Register` if a register is above 63,
+/// or `Memory`. Allocates as `hll_state_image` does.
+#[unsafe(no_mangle)]
+pub extern "C" fn hll_state_settled_image(
+    alloc: Global,
+    state: &[[u8; 4]],
+    width: u32,
+    out: &mut [u8],
+    size: &mut usize,
+) -> u8
+    ensures { Answers (IsOfState width state.now) (RefusesState (IsWidth width × IsSettled state.now) state.now) out.old out.new size.old size.new result }
+{
+    put_bytes(state::image_of_settled(alloc, state, width), out, size)
+}
+
+/// Writes the estimate of the sketch of a settled state into `estimate`, as `hll_state_estimate` does. The state is only read: no
+/// byte of it is written.
+///
+/// Returns `Argument` if the elements are not a settled state, or `Register` if a register is above 63. Allocates nothing.
+#[unsafe(no_mangle)]
+pub extern "C" fn hll_state_settled_estimate(state: &[[u8; 4]], estimate: &mut HllEstimate) -> u8
+    ensures { Reports HllEstimate (SaysEstimateOfState state.now) (RefusesEstimateOfSettled state.now) estimate.old estimate.new result }
+{
+    report(state::estimate_of_settled(state), estimate)
 }

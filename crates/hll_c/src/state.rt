@@ -1,19 +1,19 @@
 // SPDX-License-Identifier: Apache-2.0
 //! States of counters in caller-owned memory.
-ghost use Rattle.std.specs.Prelude.{◌≡◌, ◌≢◌, ◌*◌, ◌-◌, ◌^◌, ◌<◌, ◌≤◌, ◌⊎◌, [], ◌∷◌, true, false, Some, length, map, IfOk, IfErr};
+ghost use Rattle.std.specs.Prelude.{◌≡◌, ◌≢◌, ◌*◌, ◌-◌, ◌^◌, ◌<◌, ◌≤◌, ◌⊎◌, [], ◌∷◌, true, false, Some, length, drop, map, IfSome, IfNone, IfOk, IfErr};
 ghost use Rattle.hll_base.specs.declared.error.Reason.TheVariants.{Memory};
 ghost use Rattle.hll_base.specs.declared.error.Reason.TheVariants as reasons;
 ghost use Rattle.hll_coupons.specs.Hashed.{coupon_of_bytes};
 ghost use Rattle.hll_kernels.specs.Packed.{AreRegisters};
 ghost use Rattle.hll_sketch.specs.EstimatorFields.{FillsFields};
-ghost use Rattle.hll_sketch.specs.RegisterImages.{FillsState};
+ghost use Rattle.hll_images.specs.RegisterImages.{FillsState};
 ghost use Rattle.hll_sketch.specs.Value as contents;
 ghost use Rattle.hll_sketch.specs.Laws.{add_in_turn};
 ghost use Rattle.hll_sketch.specs.Value.{IsLgK, IsLegal};
 ghost use Rattle.hll_state.specs.Counter.{sketch_in, content_of, IsResolved, AreResolved};
 ghost use Rattle.hll_state.specs.Header.{IsWithin, AreWithin, HasRoom};
 ghost use Rattle.hll_state.specs.Header as headers;
-ghost use Rattle.hll_state.specs.Memory.{HasHeader, IsStateOf, OfState, IsOnlyRead, IsSettled, KeepsWidths};
+ghost use Rattle.hll_state.specs.Memory.{HasHeader, IsState, IsStateOf, OfState, IsOnlyRead, IsSettled, KeepsWidths};
 ghost use Rattle.hll_state.specs.Memory.{is_open as is_lg_k_open};
 ghost use Rattle.hll_state.specs.Merged.{HasLegalRegisters};
 ghost use Rattle.hll_state.specs.Registers.{values};
@@ -34,11 +34,11 @@ use hll_base::bounds::MIN_LG_K;
 use hll_base::error::{Error, Reason};
 use hll_base::hll_type::HllType;
 use hll_coupons::coupon::Coupon;
+use hll_images::coupon_images::coupon_image;
 use hll_registers::estimate_state::EstimateState;
 use hll_registers::packed_images::packed_image;
 use hll_registers::register_slice::RegisterSlice;
 use hll_registers::registers::Registers;
-use hll_sketch::coupon_images::coupon_image;
 use hll_state::header::{CouponTable, HEADER_LEN, Header, Held};
 use hll_state::memory::{
     Begun, add_in_place, append, begin, begin_with, close, has_raised, is_open, may_hold_coupons,
@@ -271,6 +271,40 @@ fn image_of(alloc: Global, state: &mut [[u8; 4]], width: u32) -> Result<Vec<u8>,
     image_of_held(alloc, header, &state[HEADER_LEN..], hll_type)
 }
 
+/// Returns the image of the sketch of a settled state, at a width. Fails with `Argument` if the elements are not such a state,
+/// with `Register` if a register is above 63, or with `Memory`.
+pub(crate) fn image_of_settled(
+    alloc: Global,
+    state: &[[u8; 4]],
+    width: u32,
+) -> Result<Vec<u8>, Error>
+    ensures ok { IfOk result (λ image. IsImageOf (WithFields (IsOfState width state.now)) image.items) }
+    ensures err { IfErr result (RefusesState (IsWidth width × IsSettled state.now) state.now) }
+{
+    let hll_type = width_of(width)?;
+    let Some(header) = open_settled(state) else {
+        return Err(Error::new(Reason::Argument));
+    };
+    image_of_held(alloc, header, &state[HEADER_LEN..], hll_type)
+}
+
+/// Reads the header of a settled state: its sketch can be read from the elements as they are. Returns `None` if the elements
+/// are not such a state.
+fn open_settled(state: &[[u8; 4]]) -> Option<Header>
+    ensures some { IfSome result (λ h. HasHeader state.now h) }
+    ensures within { IfSome result (λ h. IsWithin h (length state.now - 10)) }
+    ensures settled { IfSome result (λ h. IsSettled state.now) }
+    ensures resolved { IfSome result (λ h. IsResolved h (drop 10 state.now)) }
+    ensures none { IfNone result (IsState state.now → IsSettled state.now → ⊥) }
+{
+    let header = open(state)?;
+    if header.is_resolved(&state[HEADER_LEN..]) {
+        Some(header)
+    } else {
+        None
+    }
+}
+
 /// Returns the image, at a width, of the sketch of a state that `resolve` has made ready to be read.
 ///
 /// Fails with `Register` if a register is above 63, or with `Memory`.
@@ -391,13 +425,11 @@ pub(crate) fn estimate_of(state: &mut [[u8; 4]]) -> Result<HllEstimate, Error>
 pub(crate) fn estimate_of_settled(state: &[[u8; 4]]) -> Result<HllEstimate, Error>
     ensures ok { IfOk result (SaysEstimateOfState state.now) }
     ensures err { IfErr result (RefusesState (IsSettled state.now) state.now) }
+    ensures needless { IfErr result (λ e. e ≢ Memory) }
 {
-    let Some(header) = open(state) else {
+    let Some(header) = open_settled(state) else {
         return Err(Error::new(Reason::Argument));
     };
-    if !header.is_resolved(&state[HEADER_LEN..]) {
-        return Err(Error::new(Reason::Argument));
-    }
     estimate_of_held(header, &state[HEADER_LEN..])
 }
 

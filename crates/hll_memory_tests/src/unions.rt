@@ -4,11 +4,9 @@ use crate::harness::{Heap, Trial, requests_of, shown, text};
 use crate::sketches::{Shape, coupon_at, shown_sketch, sketch_in};
 use hll_base::error::Error;
 use hll_base::hll_type::HllType;
-use hll_sketch::coupon_images::coupon_image_with;
-use hll_sketch::{
-    HllSketch, HllUnion, agree, coupon_image_at, union_of, union_of_coupon_images,
-    union_of_one_coupon_image,
-};
+use hll_images::coupon_images::coupon_image_with;
+use hll_images::{coupon_image_at, union_of_coupon_images, union_of_one_coupon_image};
+use hll_sketch::{HllSketch, HllUnion, agree, union_of};
 use hll_text::fault::Fault;
 use std::alloc::Global;
 use std::mem;

@@ -5,7 +5,7 @@ pub mod Adding
 pub mod BorrowedCoupons
 pub mod Checks
 pub mod Collected
-pub mod CouponImages
+pub mod CouponHeaders
 pub mod Differing
 pub mod Elements
 pub mod Emptiness
@@ -20,7 +20,6 @@ pub mod FrontImages
 pub mod Gadgets
 pub mod Gathering
 pub mod Headers
-mod ImageRegisters
 pub mod CountChecks
 pub mod ImageSizes
 pub mod Images
@@ -44,13 +43,11 @@ pub mod Promoting
 pub mod AddedToRegisters
 pub mod ReadBack
 pub mod Refusals
-pub mod RegisterImages
 pub mod Regrouping
 pub mod SameLemmas
 pub mod SameUnions
 pub mod SetFields
-mod SizedImages
-pub mod SortedCoupons
+pub mod SizedImages
 pub mod Stages
 pub mod Steps
 pub mod Turns

@@ -3,10 +3,8 @@ pub mod Adding
 pub mod Agree
 pub mod Borrowed
 pub mod BorrowedImage
-pub mod BorrowedRegisters
 pub mod Checks
 pub mod Collected
-pub mod CouponImages
 pub mod EstimatorFields
 pub mod Fault
 pub mod Folding
@@ -22,7 +20,6 @@ pub mod Merging
 pub mod PlainStates
 pub mod Promotion
 pub mod Refusal
-pub mod RegisterImages
 pub mod Same
 pub mod SameUnions
 pub mod Stage

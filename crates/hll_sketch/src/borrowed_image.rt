@@ -13,10 +13,9 @@ ghost use Rattle.hll_sketch.specs.MergedIn.{IsOfCoupons};
 ghost use Rattle.hll_sketch.specs.Refusal.{IsRefusal};
 ghost use Rattle.hll_sketch.specs.Value.{is_empty, IsLgK};
 
-use crate::coupon_images::says_registers;
 use crate::coupon_room::CouponRoom;
 use crate::coupons_of_image::CouponsOfImage;
-use crate::header::{Header, Stage};
+use crate::header::{Header, Stage, says_registers};
 use crate::raw_coupons::{RawCoupons, compact_coupons};
 use crate::raw_registers::{eight_bit_registers, four_bit_registers, six_bit_registers};
 use crate::read_image::read_sketch;

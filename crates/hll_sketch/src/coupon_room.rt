@@ -5,7 +5,7 @@ use crate::raw_coupons::FEW;
 use hll_coupons::serialization::COUPON_SIZE_BYTES;
 
 /// The number of bytes of `FEW` coupons.
-pub(crate) const ROOM: usize = COUPON_SIZE_BYTES * FEW;
+pub const ROOM: usize = COUPON_SIZE_BYTES * FEW;
 
 /// Room for few coupons that are collected from the buckets of an updatable image, or sorted: 512 bytes. A caller lends it for
 /// each image, which takes about 10 ns.
@@ -21,7 +21,7 @@ impl CouponRoom {
     }
 
     /// Clears the bytes and returns them.
-    pub(crate) fn cleared(&mut self) -> &mut [u8; ROOM] {
+    pub fn cleared(&mut self) -> &mut [u8; ROOM] {
         self.bytes.insert([0; ROOM])
     }
 }

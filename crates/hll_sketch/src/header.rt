@@ -20,7 +20,7 @@ use hll_coupons::serialization::{
 };
 
 /// The number of bytes of the header.
-pub(crate) const HEADER_SIZE: usize = 8;
+pub const HEADER_SIZE: usize = 8;
 
 /// The stage of an image.
 #[derive(Clone, Copy, Debug, PartialEq, Eq)]
@@ -178,4 +178,14 @@ fn is_flagged(flags: u8, mask: u8) -> bool
     ensures { result ≡ (flags / mask % 2 == 1) }
 {
     flags / mask % 2 == 1
+}
+
+/// Returns whether the mode byte of an image says that it has registers. Bytes that are too short for one say nothing.
+pub fn says_registers(bytes: &[u8]) -> bool
+    ensures { result ≡ stage_bits bytes.now == 2 }
+{
+    match bytes {
+        [_, _, _, _, _, _, _, mode, ..] => mode % 4 == 2,
+        _ => false,
+    }
 }

@@ -33,7 +33,7 @@ use std::alloc::Allocator;
 const LAST_WITHOUT_VALUE: u32 = (1 << SLOT_BITS) - 1;
 
 /// Up to this number, coupons are checked with marks to be distinct.
-pub(crate) const FEW: usize = 128;
+pub const FEW: usize = 128;
 
 /// A table of at most 2 to the power of this number of buckets takes no longer to make than marks do.
 const LG_SMALL_TABLE: u8 = 8;
@@ -43,7 +43,7 @@ const MARKS: usize = 1024;
 
 /// The first raw coupons of some bytes.
 #[derive(Clone, Copy)]
-pub(crate) struct RawCoupons<'a> {
+pub struct RawCoupons<'a> {
     pub bytes: &'a [u8],
     pub count: usize,
     ghost there: { 4 * count ≤ length bytes.now },
@@ -62,14 +62,14 @@ impl<'a> RawCoupons<'a> {
     }
 
     /// Returns an iterator over these raw coupons.
-    pub(crate) fn all(&self) -> RawCouponIter<'a>
+    pub fn all(&self) -> RawCouponIter<'a>
         ensures { result ≡ raw_coupons self.now.count self.now.bytes.now }
     {
         RawCouponIter::new(self.bytes, self.count)
     }
 
     /// Returns their bytes.
-    pub(crate) fn as_bytes(&self) -> &'a [u8]
+    pub fn as_bytes(&self) -> &'a [u8]
         ensures { result.now ≡ coupon_bytes (raw_coupons self.now.count self.now.bytes.now) }
     {
         bytes_of_raw_coupons(self.bytes, self.count)
@@ -83,7 +83,7 @@ impl<'a> RawCoupons<'a> {
     }
 
     /// Returns whether each coupon has a value above 0, and is greater than the one before it.
-    pub(crate) fn ascend(&self) -> bool
+    pub fn ascend(&self) -> bool
         ensures { IsTrue result ↔ IsStrictlyIncreasing ((2 ^ 26 - 1) ∷ raw_coupons self.now.count self.now.bytes.now) }
     {
         if self.count == 0 {
@@ -157,7 +157,7 @@ impl<'a> RawCoupons<'a> {
     }
 
     /// Adds these coupons in turn to 2^`lg_k` registers of one byte each.
-    pub(crate) fn max_into(&self, registers: &mut [u8], lg_k: u8)
+    pub fn max_into(&self, registers: &mut [u8], lg_k: u8)
         requires most { lg_k ≤ 21 }
         requires size { length registers.old ≡ 2 ^ lg_k }
         ensures { registers.new ≡ join registers.old (fold_to (set_of (raw_coupons self.now.count self.now.bytes.now)) lg_k) }
@@ -192,7 +192,7 @@ pub fn max_coupon(registers: &mut [u8], lg_k: u8, coupon: Coupon)
 /// none.
 // (inlined, so that its result isn't written to memory)
 #[inline(always)]
-pub(crate) fn compact_coupons(bytes: &[u8], header: Header) -> Option<RawCoupons<'_>>
+pub fn compact_coupons(bytes: &[u8], header: Header) -> Option<RawCoupons<'_>>
     requires has { HasHeader bytes.now (stage_bits bytes.now) }
     requires stage { stage_bits bytes.now < 3 }
     requires header { header ≡ header_of bytes.now }
@@ -213,7 +213,7 @@ pub(crate) fn compact_coupons(bytes: &[u8], header: Header) -> Option<RawCoupons
 /// Returns `None` if a check other than that of coupons fails.
 // (inlined, as `compact_coupons` is)
 #[inline(always)]
-pub(crate) fn counted_coupons(bytes: &[u8], header: Header) -> Option<RawCoupons<'_>>
+pub fn counted_coupons(bytes: &[u8], header: Header) -> Option<RawCoupons<'_>>
     requires has { HasHeader bytes.now (stage_bits bytes.now) }
     requires stage { stage_bits bytes.now < 3 }
     requires header { header ≡ header_of bytes.now }

@@ -60,7 +60,7 @@ pub(crate) use with_registers;
 /// else, and nothing at all if there are no exceptions.
 ///
 /// Fails with the reason of the first check that they fail, or else with `Memory`.
-pub(crate) fn four_bit_registers<'a, A: Allocator + Clone>(
+pub fn four_bit_registers<'a, A: Allocator + Clone>(
     alloc: &A,
     bytes: &'a [u8],
     header: Header,
@@ -87,7 +87,7 @@ pub(crate) fn four_bit_registers<'a, A: Allocator + Clone>(
 /// Returns the registers of an image of 8-bit registers.
 ///
 /// Fails with the reason of the first check that they fail.
-pub(crate) fn eight_bit_registers(
+pub fn eight_bit_registers(
     bytes: &[u8],
     header: Header,
     later: Use,
@@ -105,7 +105,7 @@ pub(crate) fn eight_bit_registers(
 /// Returns the registers of an image of 6-bit registers.
 ///
 /// Fails with the reason of the first check that they fail.
-pub(crate) fn six_bit_registers(bytes: &[u8], header: Header) -> Result<GroupSlice<'_>, Error>
+pub fn six_bit_registers(bytes: &[u8], header: Header) -> Result<GroupSlice<'_>, Error>
     requires has { HasHeader bytes.now 2 }
     requires width { width_bits bytes.now ≡ 1 }
     requires header { header ≡ header_of bytes.now }

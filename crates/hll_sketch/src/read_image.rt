@@ -46,7 +46,7 @@ impl<A: Allocator + Clone> HllSketch<A> {
 /// Returns the sketch of an image whose header has been read, in memory of a clone of this allocator.
 ///
 /// Fails with the reason of the first check that the bytes fail, or else with `Memory`, also if cloning the allocator fails.
-pub(crate) fn read_sketch<A: Allocator + Clone>(
+pub fn read_sketch<A: Allocator + Clone>(
     alloc: &A,
     bytes: &[u8],
     header: Header,

@@ -13,7 +13,7 @@ use hll_base::error::Error;
 use std::alloc::Allocator;
 
 /// Returns the fold of registers.
-pub(crate) fn fold_of_registers<R: Registers, A: Allocator>(
+pub fn fold_of_registers<R: Registers, A: Allocator>(
     alloc: A,
     lg_k: u8,
     source: &R,

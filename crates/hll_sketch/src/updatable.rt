@@ -75,7 +75,7 @@ impl<'a> Buckets<'a> {
 }
 
 /// Writes a raw coupon after the first `count` of them.
-pub(crate) fn put(room: &mut [u8; ROOM], count: usize, raw_coupon: u32)
+pub fn put(room: &mut [u8; ROOM], count: usize, raw_coupon: u32)
     requires { count < 128 }
     ensures kept { raw_coupons count room.new ≡ raw_coupons count room.old }
     ensures put { raw_coupons (count + 1) room.new ≡ raw_coupons count room.old ++ raw_coupon ∷ [] }
@@ -88,7 +88,7 @@ pub(crate) fn put(room: &mut [u8; ROOM], count: usize, raw_coupon: u32)
 /// buckets. Returns `None` unless there are 1 to `FEW`.
 // (not inlined: compact images don't need it)
 #[inline(never)]
-pub(crate) fn updatable_coupons<'a>(
+pub fn updatable_coupons<'a>(
     bytes: &[u8],
     header: Header,
     room: &'a mut CouponRoom,
@@ -110,7 +110,7 @@ pub(crate) fn updatable_coupons<'a>(
 
 /// Returns the raw coupons in the buckets of an updatable image of a list or a set, gathered in `room` in
 /// the order of their buckets. Returns `None` if a check other than that of coupons fails, or if they are not 1 to `FEW`.
-pub(crate) fn gathered_coupons<'a>(
+pub fn gathered_coupons<'a>(
     bytes: &[u8],
     header: Header,
     room: &'a mut CouponRoom,

@@ -5,9 +5,8 @@ ghost use Rattle.std.specs.Prelude.{◌≤◌};
 use crate::fixtures::{WIDTHS, filled, updatable_image, with_bytes_twice};
 use hll_base::error::Error;
 use hll_base::hll_type::HllType;
-use hll_sketch::{
-    HllSketch, HllUnion, coupon_image_at, union_of_coupon_images, union_of_one_coupon_image,
-};
+use hll_images::{coupon_image_at, union_of_coupon_images, union_of_one_coupon_image};
+use hll_sketch::{HllSketch, HllUnion};
 use std::alloc::Global;
 use std::test::Fail;
 

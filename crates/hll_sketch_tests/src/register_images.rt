@@ -6,8 +6,9 @@ use crate::fixtures::{WIDTHS, filled};
 use hll_base::error::Error;
 use hll_base::hll_type::HllType;
 use hll_coupons::coupon::Coupon;
+use hll_images::{register_image_at, register_image_with};
 use hll_registers::image_parts::ImageParts;
-use hll_sketch::{HllSketch, register_image_at, register_image_with};
+use hll_sketch::HllSketch;
 use std::alloc::Global;
 use std::test::Fail;
 

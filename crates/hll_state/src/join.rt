@@ -1,6 +1,6 @@
 // SPDX-License-Identifier: Apache-2.0
 //! Merges images and states into a state, checks first whether there is room, and handles a bound of `lg_k`.
-ghost use Rattle.std.specs.Prelude.{◌≡◌, ℕ, ◌+◌, ◌-◌, ◌^◌, ◌<◌, ◌≤◌, false, List, length, min};
+ghost use Rattle.std.specs.Prelude.{◌≡◌, ℕ, ◌+◌, ◌-◌, ◌^◌, ◌<◌, ◌≤◌, ◌↔◌, IsTrue, false, List, length, min};
 ghost use Rattle.hll_sketch.specs.BorrowedImage.{sketch_of_borrowed};
 ghost use Rattle.hll_sketch.specs.Value.{is_empty, IsLgK};
 ghost use Rattle.hll_state.specs.Counter.{sketch_in};
@@ -135,8 +135,22 @@ impl Header {
         Joined::Done
     }
 
+    /// Returns whether `room` elements after the header are enough to merge a sketch.
+    pub fn has_room_to_merge<A: Allocator>(&self, room: usize, image: &BorrowedImage<'_, A>) -> bool
+        requires within { IsWithin self.now room }
+        ensures { IsTrue result ↔ HasRoomToMerge self.now (sketch_of_borrowed image.now) room }
+    {
+        if image.is_empty() {
+            return true;
+        }
+        match image.num_coupons() {
+            Some(count) => self.has_room(count, room),
+            None => self.len_for_registers(image.lg_k()) - HEADER_LEN <= room,
+        }
+    }
+
     /// Returns a number of elements, header included, in which there is room to merge a sketch.
-    fn len_to_merge<A: Allocator>(&self, image: &BorrowedImage<'_, A>) -> usize
+    pub fn len_to_merge<A: Allocator>(&self, image: &BorrowedImage<'_, A>) -> usize
         requires { (room : ℕ) × IsWithin self.now room }
         ensures asked { result ≡ merged.len_asked_for self.now (sketch_of_borrowed image.now) }
         ensures room { HasRoomToMerge self.now (sketch_of_borrowed image.now) (result - 10) }

@@ -2,7 +2,7 @@
 use Rattle.std.proofs.Common.{◌≡◌, [], ◌∷◌, true, refl, subst, sym, ◌∙◌}
 use lib.Pointwise.{bytes_decides}
 use Rattle.hll_base.proofs.Errors.{IfErr-passed}
-use Rattle.hll_sketch.specs.BorrowedRegisters.{lg_k_of, values_of}
+use Rattle.hll_images.specs.BorrowedRegisters.{lg_k_of, values_of}
 use Rattle.hll_sketch.specs.Image.{IsReadAs}
 use Rattle.hll_c.specs.Answers.{RefusesImages}
 use Rattle.hll_c.proofs.Agreement.{bit_of, same_is_agreement}

@@ -1,7 +1,7 @@
 -- SPDX-License-Identifier: Apache-2.0
 use Rattle.std.proofs.Common.{IfOk, subst}
 use Rattle.std.specs.Option.{IfSome}
-use Rattle.hll_sketch.specs.CouponImages.{IsImageWith}
+use Rattle.hll_images.specs.CouponImages.{IsImageWith}
 use Rattle.hll_c.proofs.Batches.{coupons_in_front}
 use Rattle.hll_c.proofs.image.coupon_image_with_values.Goals as goal
 

@@ -3,7 +3,7 @@ use Rattle.std.proofs.Common.{subst}
 use Rattle.std.specs.Option.{IfSome}
 use Rattle.std.proofs.lemmas.Result.{IfOk-weaker, IfErr-weaker}
 use Rattle.hll_base.proofs.Errors.{IfErr-passed}
-use Rattle.hll_sketch.specs.CouponImages.{IsFoldedImage}
+use Rattle.hll_images.specs.CouponImages.{IsFoldedImage}
 use Rattle.hll_sketch.specs.Layout.{sketch_of}
 use Rattle.hll_sketch.specs.Value.{IsLgK}
 use Rattle.hll_c.specs.Answers.{IsImageOf, WithFields, image_refused}

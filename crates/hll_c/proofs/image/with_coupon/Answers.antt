@@ -4,9 +4,9 @@ use Rattle.std.specs.Option.{IfSome}
 use Rattle.hll_base.proofs.Errors.{IfErr-passed}
 use Rattle.hll_coupons.specs.Pair.{pair, set_of, slot_of}
 use Rattle.hll_sketch.specs.Adding.{add}
-use Rattle.hll_sketch.specs.CouponImages.{IsImageWith}
+use Rattle.hll_images.specs.CouponImages.{IsImageWith}
 use Rattle.hll_sketch.specs.Layout.{sketch_of}
-use Rattle.hll_sketch.specs.RegisterImages.{IsFilledImageWith}
+use Rattle.hll_images.specs.RegisterImages.{IsFilledImageWith}
 use Rattle.hll_c.specs.Answers.{RefusesWith, image_refused}
 use Rattle.hll_c.specs.Calls.{AreOfCoupon, HasCoupon, IsMadeOf}
 use Rattle.hll_c.proofs.Answers.{made_with_fields}
@@ -38,7 +38,7 @@ pub returns-in-Some-register_image_with-clause-ok : goal.returns-in-Some-registe
 returns-in-Some-register_image_with-clause-ok c =
     let found = c.in-Some-register_image_with in
     coupon_in_registers c.args.slot c.args.value c.raw-2.result c.args.image.now found.parts (c.are_of_coupon.ensures.0 c.if-not-are_of_coupon.false) (c.raw-2.ensures ∙ packed c.args.slot c.args.value c.pack-coupon.result (c.are_of_coupon.ensures.0 c.if-not-are_of_coupon.false) c.pack-coupon.ensures)
-    (subst (λ o. IfSome o (λ parts. IsFilledImageWith (c.raw-2.result ∷ []) c.args.image.now parts)) found.is c.register_image_with.ensures)
+    (subst (λ o. IfSome o (λ parts. IsFilledImageWith (c.raw-2.result ∷ []) c.args.image.now parts)) found.is c.register_image_with.ensures.some)
 
 pub returns-in_err-sketch-clause-err : goal.returns-in_err-sketch-clause-err
 returns-in_err-sketch-clause-err c =

@@ -3,7 +3,7 @@ use Rattle.std.proofs.Common.{subst}
 use Rattle.std.specs.Option.{IfSome}
 use Rattle.std.proofs.lemmas.Result.{IfOk-weaker, IfErr-weaker}
 use Rattle.hll_base.proofs.Errors.{IfErr-passed}
-use Rattle.hll_sketch.specs.CouponImages.{IsImageAt}
+use Rattle.hll_images.specs.CouponImages.{IsImageAt}
 use Rattle.hll_sketch.specs.EstimatorFields.{SetsFields}
 use Rattle.hll_sketch.specs.Layout.{sketch_of}
 use Rattle.hll_sketch.proofs.SetFields.{coupons_stay, coupons_are_set}

@@ -3,9 +3,9 @@ use Rattle.std.proofs.Common.{length, map, sym, subst}
 use Rattle.std.specs.Option.{IfSome}
 use Rattle.hll_base.proofs.Errors.{IfErr-passed}
 use Rattle.hll_coupons.specs.Hashed.{coupon_of_bytes}
-use Rattle.hll_sketch.specs.CouponImages.{IsImageWith}
+use Rattle.hll_images.specs.CouponImages.{IsImageWith}
 use Rattle.hll_sketch.specs.Layout.{sketch_of}
-use Rattle.hll_sketch.specs.RegisterImages.{IsFilledImageWith}
+use Rattle.hll_images.specs.RegisterImages.{IsFilledImageWith}
 use Rattle.hll_c.specs.Answers.{RefusesWith, image_refused}
 use Rattle.hll_c.specs.Batches.{AreEnds, strings}
 use Rattle.hll_c.specs.Calls.{IsMadeOf, HasValues}
@@ -34,7 +34,7 @@ pub returns-in-Some-register_image_with_values-clause-ok : goal.returns-in-Some-
 returns-in-Some-register_image_with_values-clause-ok c =
     let found = c.in-Some-register_image_with_values in
     values_in_registers c.args.values.now c.args.ends.now c.args.image.now found.parts (c.are_ends.ensures.0 c.if-not-are_ends.false)
-    (subst (λ o. IfSome o (λ parts. IsFilledImageWith (map coupon_of_bytes (strings c.args.values.now c.args.ends.now)) c.args.image.now parts)) found.is c.register_image_with_values.ensures)
+    (subst (λ o. IfSome o (λ parts. IsFilledImageWith (map coupon_of_bytes (strings c.args.values.now c.args.ends.now)) c.args.image.now parts)) found.is c.register_image_with_values.ensures.some)
 
 pub returns-in_err-image_with_fields-clause-err : goal.returns-in_err-image_with_fields-clause-err
 returns-in_err-image_with_fields-clause-err c =

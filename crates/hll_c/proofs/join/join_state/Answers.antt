@@ -7,7 +7,7 @@ use Rattle.hll_sketch.specs.Value.{IsLegal}
 use Rattle.hll_state.specs.Counter.{sketch_in, IsResolved}
 use Rattle.hll_state.specs.declared.header.Header.{Header}
 use Rattle.hll_state.proofs.States.{rest_borrowed, legal_registers, read_at, read_own}
-use Rattle.hll_c.specs.States.{BeginsAndJoins, JoinsState, state_read, no_states, register_above}
+use Rattle.hll_c.specs.States.{JoinsUnder, JoinsState, state_read, no_states, register_above}
 use Rattle.hll_c.proofs.join.join_state.Goals as goal
 
 pub returns-in_default-clause-joined : goal.returns-in_default-clause-joined
@@ -33,9 +33,9 @@ returns-in-Ok-clause-joined c =
     let g : Header = of.was.state.header in
     let is : sketch_of_borrowed c.in-Ok.image ≡ sketch_in g (drop 10 c.args.other.now) = c.in-Ok.ensures.ok ∙ ap (sketch_in h) (rest_borrowed n) ∙ sym of.is ∙ of.was.is in
     state_read g of.was.state.has
-    (subst (λ widths. BeginsAndJoins c.args.lg_max_k widths (sketch_in g (drop 10 c.args.other.now)) c.args.state.now c.join.new.state c.args.size.now c.join.new.size c.join.result)
+    (subst (λ widths. JoinsUnder c.args.lg_max_k widths (sketch_in g (drop 10 c.args.other.now)) c.args.state.now c.join.new.state c.args.size.now c.join.new.size c.join.result)
     (c.in-Some-resolve.ensures.widths g of.was.state.has)
-    (subst (λ y. BeginsAndJoins c.args.lg_max_k h.widths y c.args.state.now c.join.new.state c.args.size.now c.join.new.size c.join.result) is c.join.ensures))
+    (subst (λ y. JoinsUnder c.args.lg_max_k h.widths y c.args.state.now c.join.new.state c.args.size.now c.join.new.size c.join.result) is c.join.ensures))
 
 pub returns-in-Err-clause-joined : goal.returns-in-Err-clause-joined
 returns-in-Err-clause-joined c =

@@ -1,5 +1,5 @@
 -- SPDX-License-Identifier: Apache-2.0
-use Rattle.std.proofs.Common.{◌≡◌, ◌-◌, ℕ, List, length, inl, inr, sym, ap}
+use Rattle.std.proofs.Common.{◌-◌, ℕ, List, length, inl, inr}
 use Rattle.std.proofs.lemmas.Result.{IfOk-weaker, IfErr-weaker}
 use borrow.Rule.Slice.PartMut.{mid_of}
 use Rattle.hll_base.proofs.Errors.{IfErr-passed}
@@ -10,9 +10,8 @@ use Rattle.hll_state.proofs.States.{read_at, read_own}
 use Rattle.hll_c.specs.Answers.{IsImageOf, WithFields}
 use Rattle.hll_c.specs.Calls.{IsWidth}
 use Rattle.hll_c.specs.States.{IsOfState, RefusesState}
-use Rattle.hll_c.proofs.Answers.{made_with_fields}
 use Rattle.hll_c.proofs.Codes.{IfOk-always}
-use Rattle.hll_c.proofs.States.{refuses_no_state, refuses_register, refuses_state_memory}
+use Rattle.hll_c.proofs.States.{image_at, refuses_no_state, refuses_register, refuses_state_memory}
 use Rattle.hll_c.proofs.state.image_of.Goals as goal
 
 pub returns-in_err-hll_type-clause-err : goal.returns-in_err-hll_type-clause-err
@@ -30,15 +29,9 @@ returns-in_default-clause-err c = refuses_no_state (IsWidth c.args.width) c.args
 pub returns-clause-ok : goal.returns-clause-ok
 returns-clause-ok c =
     let h = c.in-Some.header in
-    let w = c.in_ok-hll_type.hll_type in
     let n : List (List ℕ) = c.resolve.new.elements in
-    let x : Sketch = sketch_in h (mid_of 10 (length n - 10) n) in
-    let of = read_at c.args.state.now n h c.in-Some.ensures.some in
-    let same : record x { width = w } ≡ record of.sketch { width = w } = ap (λ (y : Sketch). record y { width = w }) (sym of.is) in
-    let Made = IsOfState c.args.width c.args.state.now in
-    IfOk-weaker c.image_of_held.result _ (λ image. IsImageOf (WithFields Made) image.items)
-    (λ image is. made_with_fields Made (record x { width = w }) image.items
-    (record { sketch = of.sketch; was = of.was; is = record { width_is = record { width = w; is = c.in_ok-hll_type.ensures.ok }; is = same } }) is)
+    IfOk-weaker c.image_of_held.result _ (λ image. IsImageOf (WithFields (IsOfState c.args.width c.args.state.now)) image.items)
+    (λ image. image_at c.args.state.now (sketch_in h (mid_of 10 (length n - 10) n)) c.args.width c.in_ok-hll_type.hll_type image.items (read_at c.args.state.now n h c.in-Some.ensures.some) c.in_ok-hll_type.ensures.ok)
     c.image_of_held.ensures.ok
 
 pub returns-clause-err : goal.returns-clause-err

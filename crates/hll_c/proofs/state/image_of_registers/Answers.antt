@@ -6,7 +6,7 @@ use Rattle.hll_registers.specs.Payload.{WritesRegisters}
 use Rattle.hll_registers.specs.Store.{Stored}
 use Rattle.hll_registers.specs.declared.estimate_state.EstimateState.{EstimateState}
 use Rattle.hll_sketch.specs.EstimatorFields.{FillsFields, filled, stays}
-use Rattle.hll_sketch.specs.RegisterImages.{FillsState, fills, keeps}
+use Rattle.hll_images.specs.RegisterImages.{FillsState, fills, keeps}
 use Rattle.hll_sketch.specs.Value.{Sketch, registers}
 use Rattle.hll_c.specs.Answers.{IsImageOf}
 use Rattle.hll_c.proofs.state.image_of_registers.Goals as goal

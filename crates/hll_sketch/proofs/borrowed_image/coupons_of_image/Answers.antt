@@ -9,7 +9,7 @@ use Rattle.hll_coupons.specs.Pair.{set_of}
 use Rattle.hll_sketch.specs.Image.{IsReadAs}
 use Rattle.hll_sketch.specs.Value.{Sketch, coupons, IsTableFor}
 use Rattle.hll_sketch.specs.declared.header.Header.{Header}
-use Rattle.hll_sketch.proofs.CouponImages.{sketch_said, table_said}
+use Rattle.hll_sketch.proofs.CouponHeaders.{sketch_said, table_said}
 use Rattle.hll_sketch.proofs.Elements.{list_of_table, set_of_table}
 use Rattle.hll_sketch.proofs.borrowed_image.coupons_of_image.Goals as goal
 
