@@ -472,7 +472,7 @@ class Paths:
     def __init__(self, names):
         self.names = {of_type(name.path): name for name in names}
         # a type's methods may be written in any module of its crate
-        self.methods = {tuple(path.split("::")[i] for i in (0, 2, 3)) for path in self.names if path.count("::") == 3}
+        self.methods = {tuple(path.split("::")[i] for i in (0, 2, 3)): name for path, name in self.names.items() if path.count("::") == 3}
         self.modules, self.uses = set(), {}
         for crate, is_program in crates():
             for place, text, is_public in modules(crate, is_program):
@@ -489,6 +489,19 @@ class Paths:
                 return self.followed("::".join([whole] + parts[count:]))
         return path
 
+    def named(self, path):
+        """The public name that a path leads to, or None."""
+        whole = self.followed(path)
+        outer, _, last = whole.rpartition("::")
+        return self.names.get(whole) or self.methods.get((whole.split("::")[0], outer.split("::")[-1], last))
+
+    def derives(self, path):
+        """The traits that a type derives, or that are implemented for it."""
+        item = self.named(path)
+        derived = re.findall(r"\w+", " ".join(re.findall(r"#\[derive\w*\((.*)\)\]", "\n".join(item.clauses))))
+        owner = item.path.rpartition("::")[2]
+        return {*derived, *(match[1] for match in (re.search(r"::(\w+)(?:<.*>)? for %s\b(?!.*::)" % owner, path) for path in self.names) if match)}
+
     def leads(self, path):
         """Whether a path leads to a public module or name, or to a variant or a field of one."""
         whole = self.followed(path)
@@ -504,13 +517,24 @@ class Paths:
         return bool(inside and re.search(r"(?:^|[{,] |pub )%s\b" % last, inside[1].strip()))
 
 
+def arguments_of(signature):
+    """The names of a function's arguments, in their order."""
+    inside = re.sub(r"^.*?\bfn \w+(?:<.*?>)?(?=\()", "", signature)
+    return ", ".join(re.findall(r"(?:^\(|, )(?:&(?:'\w+ )?)?(?:mut )?(\w+)(?=:|,|\))", inside.partition(") ->")[0] + ")"))
+
+
 def lost_paths(names):
-    """The lines of paths.txt that lead to nothing public."""
+    """The lines of paths.txt that lead to nothing public, or whose arguments or traits are others."""
     paths = Paths(names)
     lines = (LISTS / "paths.txt").read_text().splitlines()
-    for path in (line for line in lines if line and not line.startswith("#")):
+    for line in (line for line in lines if line and not line.startswith("#")):
+        path, arguments, traits = re.fullmatch(r"([\w:]+)(?:\((.*)\)|: (.+))?", line).groups()
         if not paths.leads(path):
             yield "paths.txt names %s, which leads to nothing public" % path
+        elif arguments is not None and arguments != arguments_of(paths.named(path).signature):
+            yield "paths.txt says %s, but its arguments are (%s)" % (line, arguments_of(paths.named(path).signature))
+        elif traits and not set(traits.split(", ")) <= paths.derives(path):
+            yield "paths.txt says %s, but it lacks %s" % (line, ", ".join(sorted(set(traits.split(", ")) - paths.derives(path))))
 
 
 # ---- the texts
