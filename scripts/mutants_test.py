@@ -128,10 +128,13 @@ def try_made_up():
 
 def try_progress():
     """Gives what is read of the lines of `rt ci`."""
-    progress = prover.Progress(iter(["== hll_base\n", "rt: hll_base proved\n", "rt: hll_base: its tests are proved\n", "rt: hll_c NOT PROVED\n"]))
+    progress = prover.Progress(iter([
+        "== hll_base\n", "rt: hll_base proved\n", "rt: hll_base: its tests are proved\n", "rt: hll_text: another run on this machine is proving the same; waiting for it\n",
+        "rt: hll_kernels is kept: an earlier run on this machine proved the same files over the same libraries\n", "rt: hll_c NOT PROVED\n"]))
     yield "a crate that is proved", progress.wait_for(it for it in [CRATE]), True
+    yield "a crate that an earlier run proved", progress.wait_for(it for it in [CRATE, "hll_kernels"]), True
     yield "a crate that is not", progress.wait_for(it for it in [CRATE, "hll_c"]), False
-    yield "all that is proved", (progress.proved, progress.has_ended), ({CRATE}, True)
+    yield "all that is proved", (progress.proved, progress.has_ended), ({CRATE, "hll_kernels"}, True)
 
 
 def try_folders():

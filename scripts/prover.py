@@ -90,7 +90,8 @@ class Heard:
 
 # ---- What is read of `rt ci` as it goes ----
 
-CRATE = re.compile(r"rt: (\w+) proved")
+# A crate is proved in this run, or an earlier run on this machine proved the same.
+CRATE = re.compile(r"rt: (\w+)(?: proved| is kept: .*)")
 
 
 class Progress:
