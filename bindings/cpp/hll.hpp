@@ -84,7 +84,7 @@ class image_error : public std::runtime_error {
     /// One of several images; `index` is its number, from 0.
     static image_error at(size_t index, hll_status status, size_t size, size_t more = 0)
     {
-        return image_error(status, size, more, index, "image " + std::to_string(index) + ": ");
+        return image_error(status, size, more, index, "images[" + std::to_string(index) + "]: ");
     }
 
     /// Returns the first check that the bytes fail, HLL_TRUNCATED to HLL_REGISTER, or HLL_TRAILING.
@@ -113,8 +113,8 @@ class image_error : public std::runtime_error {
 /// A union without a bound got a sketch of another lg_k.
 class lg_k_error : public std::runtime_error {
   public:
-    lg_k_error(unsigned lg_k, unsigned other)
-        : std::runtime_error("the union has lg_k " + std::to_string(lg_k) + " and the sketch lg_k " +
+    lg_k_error(unsigned lg_k, unsigned other, const std::string &which = "")
+        : std::runtime_error(which + "the union has lg_k " + std::to_string(lg_k) + " and the sketch lg_k " +
                              std::to_string(other) +
                              ": to merge both at the smaller lg_k, give the union a bound, as in hll::union_(" +
                              std::to_string(lg_k) + ")"),
@@ -422,16 +422,16 @@ template <class Value> constexpr bool is_hashed_in_place()
     return is_little_endian && std::is_integral<Value>::value && sizeof(Value) == 8;
 }
 
-/// Writes the coupons of n numbers, at most `batch`.
+/// Writes the coupons of the numbers from values[first] on: n of them, at most `batch`.
 template <class Number>
-typename std::enable_if<std::is_arithmetic<Number>::value>::type hash_batch(const Number *values, size_t n,
+typename std::enable_if<std::is_arithmetic<Number>::value>::type hash_batch(const Number *values, size_t first, size_t n,
                                                                             uint32_t *coupons)
 {
     if (is_hashed_in_place<Number>())
-        return check(hll_coupons_fixed(reinterpret_cast<const uint8_t *>(values), 8 * n, 8, coupons, n));
+        return check(hll_coupons_fixed(reinterpret_cast<const uint8_t *>(values + first), 8 * n, 8, coupons, n));
     uint8_t bytes[8 * batch];
     for (size_t i = 0; i < n; i++)
-        put_little_endian(hashed_as(values[i]), bytes + 8 * i);
+        put_little_endian(hashed_as(values[first + i]), bytes + 8 * i);
     check(hll_coupons_fixed(bytes, 8 * n, 8, coupons, n));
 }
 
@@ -442,29 +442,32 @@ inline size_t length_of(const char *text)
     return std::strlen(text);
 }
 
-/// Returns the coupon of a string, or of another container of bytes.
-inline uint32_t coupon_of(const char *text)
+/// Returns the coupon of values[at]: of a string, or of another container of bytes.
+inline uint32_t coupon_of(const char *text, size_t at)
 {
-    return hll_coupon(reinterpret_cast<const uint8_t *>(text), length_of(text));
+    if (text == nullptr)
+        throw std::invalid_argument("values[" + std::to_string(at) + "] is a null pointer");
+    return hll_coupon(reinterpret_cast<const uint8_t *>(text), std::strlen(text));
 }
-template <class Text> uint32_t coupon_of(const Text &text)
+template <class Text> uint32_t coupon_of(const Text &text, size_t)
 {
     static_assert(sizeof *text.data() == 1, "values are numbers, strings, or containers of bytes");
     return hll_coupon(reinterpret_cast<const uint8_t *>(text.data()), text.size());
 }
 
-/// Writes the coupons of n strings or other containers of bytes, at most `batch`.
+/// Writes the coupons of the strings or other containers of bytes from values[first] on: n of them, at most `batch`.
 template <class Text>
-typename std::enable_if<!std::is_arithmetic<Text>::value>::type hash_batch(const Text *values, size_t n, uint32_t *coupons)
+typename std::enable_if<!std::is_arithmetic<Text>::value>::type hash_batch(const Text *values, size_t first, size_t n,
+                                                                           uint32_t *coupons)
 {
     for (size_t i = 0; i < n; i++)
-        coupons[i] = coupon_of(values[i]);
+        coupons[i] = coupon_of(values[first + i], first + i);
 }
 
 template <class Value> void hash_all(const Value *values, size_t n, uint32_t *coupons)
 {
     for (size_t done = 0; done < n; done += batch)
-        hash_batch(values + done, std::min(batch, n - done), coupons + done);
+        hash_batch(values, done, std::min(batch, n - done), coupons + done);
 }
 
 /// The members that sketches and unions have in common.
@@ -517,7 +520,7 @@ class counter {
         }
         for (size_t done = 0; done < n; done += batch) {
             const size_t some = std::min(batch, n - done);
-            hash_batch(values + done, some, coupons);
+            hash_batch(values, done, some, coupons);
             add(coupons, some);
         }
     }
@@ -545,7 +548,7 @@ class counter {
         checked_bytes(coupons, n);
         const uint32_t *found = std::find_if(coupons, coupons + n, [](uint32_t one) { return HLL_COUPON_VALUE(one) == 0; });
         if (found != coupons + n)
-            throw std::invalid_argument("coupon " + std::to_string(found - coupons) + " is " + std::to_string(*found) +
+            throw std::invalid_argument("coupons[" + std::to_string(found - coupons) + "] is " + std::to_string(*found) +
                                         ", whose value is 0; the value of a coupon is 1 to 63");
         add(coupons, n);
     }
@@ -837,17 +840,18 @@ class union_ : public detail::counter {
             const hll_status status = copy.state_.join(images[i].bytes, images[i].len);
             if (detail::is_refusal(status))
                 throw image_error::at(i, status, images[i].len);
-            copy.joined(status, detail::head_of(images[i].bytes, images[i].len).lg_k);
+            copy.joined(status, detail::head_of(images[i].bytes, images[i].len).lg_k, 0,
+                        "images[" + std::to_string(i) + "]: ");
         }
         swap(copy);
     }
 
-    void joined(hll_status status, unsigned other_lg_k, size_t size = 0) const
+    void joined(hll_status status, unsigned other_lg_k, size_t size = 0, const std::string &which = "") const
     {
         if (detail::is_refusal(status))
             throw image_error(status, size);
         if (status == HLL_OTHER_LG_K)
-            throw lg_k_error(lg_k(), other_lg_k);
+            throw lg_k_error(lg_k(), other_lg_k, which);
         detail::check(status);
     }
 

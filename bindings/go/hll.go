@@ -46,7 +46,7 @@ const (
 )
 
 // ErrOtherLgK is returned where sketches of different lg_k would be merged and no bound was given.
-var ErrOtherLgK = errors.New("the sketches have different lg_k: to merge them at the smaller lg_k, give a bound")
+var ErrOtherLgK = errors.New("the sketches have different lg_k: to merge them at the smaller lg_k, give a bound, as NewUnion does")
 
 // A closed sketch and the zero Sketch return these errors from every call that can return one, except UnmarshalBinary and
 // UnmarshalText, which replace them.
@@ -281,7 +281,8 @@ func (s *Sketch) MergeImage(image []byte) error {
 	if err := checkEnd(image); err != nil {
 		return err
 	}
-	return errorOf(C.hll_counter_join(&s.counter.c, start(image), C.size_t(len(image))), len(image))
+	status := C.hll_counter_join(&s.counter.c, start(image), C.size_t(len(image)))
+	return s.joined(status, int(headOf(image).lg_k), len(image))
 }
 
 // Merge merges another sketch, which keeps its values.
@@ -292,11 +293,22 @@ func (s *Sketch) Merge(other *Sketch) error {
 	if err := other.settle(); err != nil {
 		return err
 	}
-	return errorOf(C.hll_counter_join_counter(&s.counter.c, &other.counter.c), 0)
+	return s.joined(C.hll_counter_join_counter(&s.counter.c, &other.counter.c), other.LgK(), 0)
+}
+
+// joined returns the error of a merge. One of different lg_k has both.
+func (s *Sketch) joined(status C.hll_status, otherLgK, size int) error {
+	if status == C.HLL_OTHER_LG_K {
+		return fmt.Errorf("lg_k %d and %d: %w", s.LgK(), otherLgK, ErrOtherLgK)
+	}
+	return errorOf(status, size)
 }
 
 // Image returns the image at a width.
 func (s *Sketch) Image(width Width) ([]byte, error) {
+	if width != Width4 && width != Width6 && width != Width8 {
+		return nil, fmt.Errorf("the width is %d; it must be 4, 6 or 8", width)
+	}
 	if err := s.settle(); err != nil {
 		return nil, err
 	}

@@ -4,6 +4,7 @@ package hll
 
 import (
 	"bytes"
+	"encoding/base64"
 	"encoding/binary"
 	"encoding/gob"
 	"encoding/hex"
@@ -12,6 +13,7 @@ import (
 	"fmt"
 	"math"
 	"os"
+	"os/exec"
 	"runtime"
 	"strconv"
 	"strings"
@@ -46,52 +48,122 @@ func imageOf(t *testing.T, s *Sketch) []byte {
 	return must[[]byte](t)(s.Image(Width8))
 }
 
-// Adds a value of tests/behaviour by each call that takes it, each to a sketch of its own.
-func addedInEachWay(t *testing.T, kind, value string) (sketches []*Sketch) {
-	t.Helper()
-	try := func(add func(*Sketch) error) {
-		s := must[*Sketch](t)(New(12))
-		if err := add(s); err != nil {
-			t.Error(kind, value, err)
-		}
-		sketches = append(sketches, s)
+// added returns an empty sketch of lg_k 12 after a call.
+func added(add func(*Sketch) error) (*Sketch, error) {
+	s, err := New(12)
+	if err == nil {
+		err = add(s)
 	}
-	switch kind {
-	case "text", "bytes":
-		decoded := must[[]byte](t)(hex.DecodeString(value))
-		try(func(s *Sketch) error { return s.Add(decoded) })
-		try(func(s *Sketch) error { return s.AddString(string(decoded)) })
-	case "integer":
-		if number, err := strconv.ParseInt(value, 10, 64); err == nil {
-			try(func(s *Sketch) error { return s.AddInt(number) })
-		}
-		if number, err := strconv.ParseUint(value, 10, 64); err == nil {
-			try(func(s *Sketch) error { return s.AddUint(number) })
-		}
-	case "real":
-		number := must[float64](t)(strconv.ParseFloat(value, 64))
-		try(func(s *Sketch) error { return s.AddFloat(number) })
-	}
-	return sketches
+	return s, err
 }
 
-// The cases of tests/behaviour, which every binding runs. The check of this package says where they are.
+// takenByEach takes a value or an image of tests/behaviour by each call that takes it, each with a sketch of its own.
+func takenByEach(t *testing.T, call, given string) (ways []func() (*Sketch, error)) {
+	way := func(add func(*Sketch) error) { ways = append(ways, func() (*Sketch, error) { return added(add) }) }
+	decoded, _ := hex.DecodeString(given)
+	switch call {
+	case "text", "bytes":
+		way(func(s *Sketch) error { return s.Add(decoded) })
+		way(func(s *Sketch) error { return s.AddString(string(decoded)) })
+	case "integer":
+		if number, err := strconv.ParseInt(given, 10, 64); err == nil {
+			way(func(s *Sketch) error { return s.AddInt(number) })
+		}
+		if number, err := strconv.ParseUint(given, 10, 64); err == nil {
+			way(func(s *Sketch) error { return s.AddUint(number) })
+		}
+	case "real":
+		number := must[float64](t)(strconv.ParseFloat(given, 64))
+		way(func(s *Sketch) error { return s.AddFloat(number) })
+	case "whole":
+		ways = append(ways, func() (*Sketch, error) { return Read(decoded) })
+		way(func(s *Sketch) error { return s.UnmarshalBinary(decoded) })
+		way(func(s *Sketch) error { return s.UnmarshalText([]byte(base64.StdEncoding.EncodeToString(decoded))) })
+		ways = append(ways, func() (*Sketch, error) {
+			lgK := int(headOf(decoded).lg_k)
+			if lgK == 0 {
+				lgK = 12
+			}
+			s, err := New(lgK)
+			if err == nil {
+				err = s.MergeImage(decoded)
+			}
+			return s, err
+		})
+	}
+	return ways
+}
+
+// united merges images under a bound; without one, into the first of them.
+func united(lgMaxK int, images []string) (s *Sketch, err error) {
+	if lgMaxK != 0 {
+		s, err = NewUnion(lgMaxK)
+	}
+	for i := 0; i < len(images) && err == nil; i++ {
+		if image, _ := hex.DecodeString(images[i]); s == nil {
+			s, err = Read(image)
+		} else {
+			err = s.MergeImage(image)
+		}
+	}
+	return s, err
+}
+
+// answered returns what a sketch of a way keeps of a value or is as an image, or why there is none.
+func answered(s *Sketch, err error, width Width, isValue bool) string {
+	if err != nil {
+		return "rejected: " + err.Error()
+	}
+	image, err := s.Image(width)
+	if err != nil {
+		return "rejected: " + err.Error()
+	}
+	if isValue {
+		return fmt.Sprintf("%08x", binary.LittleEndian.Uint32(image[8:]))
+	}
+	return hex.EncodeToString(image)
+}
+
+// The cases of tests/behaviour, which every binding runs. The check of this package says where the script is that reads them.
 func TestBehaviour(t *testing.T) {
 	if os.Getenv("HLL_CASES") == "" {
-		t.Skip("HLL_CASES names no file")
+		t.Skip("HLL_CASES names no script")
 	}
-	cases := string(must[[]byte](t)(os.ReadFile(os.Getenv("HLL_CASES"))))
+	cases := string(must[[]byte](t)(exec.Command("python3", "-B", os.Getenv("HLL_CASES"), "go").Output()))
+	var answers strings.Builder
 	for _, line := range strings.Split(strings.TrimSuffix(cases, "\n"), "\n") {
-		fields := strings.Split(line, "\t")
-		sketches := addedInEachWay(t, fields[0], fields[1])
-		if len(sketches) == 0 {
-			t.Error("no call takes", line)
-		}
-		for _, s := range sketches {
-			if image := imageOf(t, s); fmt.Sprintf("%08x", binary.LittleEndian.Uint32(image[8:])) != fields[2] {
-				t.Error(line, hex.EncodeToString(image))
+		call, given, _ := strings.Cut(line, "\t")
+		fields, found := strings.Fields(given), map[string]bool{}
+		switch call {
+		case "union", "new":
+			number, _ := strconv.Atoi(fields[0])
+			width, _ := strconv.Atoi(fields[1])
+			s, err := united(number, fields[2:])
+			if call == "new" {
+				s, err = New(number)
+			}
+			found[answered(s, err, Width(width), false)] = true
+		default:
+			image, _ := hex.DecodeString(given)
+			width := Width8
+			if head := headOf(image); call == "whole" && head.width != 0 {
+				width = Width(head.width)
+			}
+			for _, way := range takenByEach(t, call, given) {
+				s, err := way()
+				found[answered(s, err, width, call != "whole")] = true
 			}
 		}
+		all := make([]string, 0, len(found))
+		for answer := range found {
+			all = append(all, answer)
+		}
+		answers.WriteString(strings.Join(all, " or ") + "\n")
+	}
+	compare := exec.Command("python3", "-B", os.Getenv("HLL_CASES"), "go", "-")
+	compare.Stdin = strings.NewReader(answers.String())
+	if said, err := compare.CombinedOutput(); err != nil {
+		t.Error(err, string(said))
 	}
 }
 
@@ -180,16 +252,10 @@ func TestLgK(t *testing.T) {
 	if err := all.Merge(coarse); err != nil || all.LgK() != 10 || !bytes.Equal(imageOf(t, all), imageOf(t, coarse)) {
 		t.Error(err, all.LgK())
 	}
-	for _, lgK := range []int{-1, 0, 3, 22, 1 << 40} {
+	for _, lgK := range []int{-1, 0, 1 << 40} {
 		if _, err := New(lgK); err == nil {
 			t.Error(lgK)
 		}
-		if _, err := NewUnion(lgK); err == nil {
-			t.Error(lgK)
-		}
-	}
-	if _, err := fine.Image(5); err == nil {
-		t.Error("a width of 5")
 	}
 }
 
@@ -201,16 +267,12 @@ func TestBadImages(t *testing.T) {
 			t.Error(size, err)
 		}
 	}
-	if _, err := Read([]byte{2, 1, 8, 10, 3, 12, 0, 8}); err == nil ||
-		err.Error() != "these 8 bytes are not the image of a sketch: The family byte is not 7. (family)" {
-		t.Error(err)
-	}
 	if !IsSmall(image) || IsSmall([]byte{2, 1, 7, 21, 3, 12, 0, 8}) || !IsSmall(nil) {
 		t.Error("IsSmall")
 	}
 }
 
-func TestCopies(t *testing.T) {
+func TestLifeCopied(t *testing.T) {
 	for _, n := range []int{0, 3, 300, 5000} {
 		s := filled(t, 12, 0, n)
 		copied := s.Clone()
@@ -239,7 +301,7 @@ func TestCopies(t *testing.T) {
 }
 
 // What encoding/json writes and reads: structs and maps, with pointers and without.
-func TestJSON(t *testing.T) {
+func TestLifeJSON(t *testing.T) {
 	type site struct {
 		All  Sketch
 		Days map[string]*Sketch
@@ -280,16 +342,12 @@ func TestJSON(t *testing.T) {
 	}
 }
 
-// The zero Sketch, a closed one and copies of them hold nothing, and each call says so.
-func TestUnusable(t *testing.T) {
-	var zero Sketch
-	closed, union := filled(t, 12, 0, 300), must[*Sketch](t)(NewUnion(12))
-	copied := *closed
-	closed.Close()
-	union.Close()
+// unusable checks that sketches hold nothing, and that each call returns this error.
+func unusable(t *testing.T, wanted error, sketches ...*Sketch) {
+	t.Helper()
 	other := filled(t, 12, 0, 3)
 	image := imageOf(t, other)
-	for s, wanted := range map[*Sketch]error{&zero: ErrZero, zero.Clone(): ErrZero, closed: ErrClosed, &copied: ErrClosed, closed.Clone(): ErrClosed, union: ErrClosed} {
+	for _, s := range sketches {
 		_, imageErr := s.Image(Width8)
 		_, estimateErr := s.Estimate()
 		_, jsonErr := json.Marshal(map[string]*Sketch{"day": s})
@@ -308,6 +366,19 @@ func TestUnusable(t *testing.T) {
 			t.Error(wanted, err)
 		}
 	}
+}
+
+func TestLifeZero(t *testing.T) {
+	var zero Sketch
+	unusable(t, ErrZero, &zero, zero.Clone())
+}
+
+func TestLifeClosed(t *testing.T) {
+	closed, union := filled(t, 12, 0, 300), must[*Sketch](t)(NewUnion(12))
+	copied := *closed
+	closed.Close()
+	union.Close()
+	unusable(t, ErrClosed, closed, &copied, closed.Clone(), union)
 }
 
 // Shards in goroutines.
@@ -363,7 +434,7 @@ func TestMemory(t *testing.T) {
 }
 
 // Whoever copies the struct shares its counter, which is freed once.
-func TestCopiedStruct(t *testing.T) {
+func TestLifeLanguage(t *testing.T) {
 	for i := 0; i < 100; i++ {
 		s := filled(t, 12, 0, 1000)
 		copied := *s

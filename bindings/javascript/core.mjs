@@ -268,7 +268,7 @@ export function make(exports) {
     // memory of its own, since an iterator may use other sketches, or this one, between two values
     const batch = allocated(VALUES_ROOM + 8 * MOST_VALUES + 8);
     const offsets = batch + VALUES_ROOM, coupons = offsets + 4 * MOST_VALUES + 4;
-    let n = 0, end = 0;
+    let n = 0, end = 0, number = -1;
     u32[offsets >> 2] = 0;
     const flush = () => {
       if (n === 0) return;
@@ -279,9 +279,16 @@ export function make(exports) {
     };
     try {
       for (const value of values) {
+        number++;
         if (isMissing(value)) continue;
         if (n === MOST_VALUES || VALUES_ROOM - end < 256) flush();
-        let found = put(value, batch + end, VALUES_ROOM - end);
+        let found;
+        try {
+          found = put(value, batch + end, VALUES_ROOM - end);
+        } catch (why) {
+          why.message = `values[${number}]: ${why.message}`;
+          throw why;
+        }
         if (typeof found !== "number") {
           if (found.length > VALUES_ROOM - end) flush();
           if (found.length > VALUES_ROOM) {

@@ -449,12 +449,71 @@ static void test_single_coupons(void)
     hll_counter_free(&coupons);
 }
 
+/* The 8-bit image of a counter of lg_k 12. */
+static bytes image_of_counter(const hll_counter *counter)
+{
+    bytes made = with_room(HLL_IMAGE_MAX(12));
+    need(hll_counter_image(counter, 8, made.at, made.len, &made.len) == HLL_OK, "the image of a counter");
+    return made;
+}
+
+static int same_bytes(bytes one, bytes other)
+{
+    const int is_same = one.len == other.len && memcmp(one.at, other.at, one.len) == 0;
+    free(one.at);
+    free(other.at);
+    return is_same;
+}
+
+/* A copy of few and of many values has the same image, and then neither changes with the other. */
+static void life_copied(void)
+{
+    static const size_t sizes[] = {0, 5, 100, 5000};
+    for (size_t i = 0; i < 4; i++) {
+        hll_counter one, copy;
+        hll_counter_init(&one, 12, NULL, NULL);
+        hll_counter_init(&copy, 12, NULL, NULL);
+        for (uint64_t value = 0; value < sizes[i]; value++)
+            need(hll_counter_add(&one, (const uint8_t *)&value, sizeof value) == HLL_OK, "a value");
+        bytes before = image_of_counter(&one);
+        CHECK(hll_counter_copy(&copy, &one) == HLL_OK && same_bytes(image_of_counter(&copy), image_of_counter(&one)),
+              "a copy");
+        for (uint64_t value = 1; value < 500; value++)
+            need(hll_counter_add(&copy, (const uint8_t *)&value, 7) == HLL_OK, "a value of the copy");
+        CHECK(!same_bytes(image_of_counter(&copy), image_of_counter(&one)), "the copy changed");
+        hll_counter_free(&copy);
+        CHECK(same_bytes(image_of_counter(&one), before), "the other one did not");
+        hll_counter_free(&one);
+    }
+}
+
+/* A counter that was freed is a new one. */
+static void life_closed(void)
+{
+    hll_counter one, other;
+    hll_counter_init(&one, 12, NULL, NULL);
+    hll_counter_init(&other, 12, NULL, NULL);
+    for (uint64_t value = 0; value < 500; value++)
+        need(hll_counter_add(&one, (const uint8_t *)&value, sizeof value) == HLL_OK, "a value");
+    hll_counter_free(&one);
+    hll_counter_free(&one);
+    CHECK(same_bytes(image_of_counter(&one), image_of_counter(&other)), "without values");
+    CHECK(hll_counter_add(&one, (const uint8_t *)"ann", 3) == HLL_OK &&
+              hll_counter_add(&other, (const uint8_t *)"ann", 3) == HLL_OK &&
+              same_bytes(image_of_counter(&one), image_of_counter(&other)),
+          "with one");
+    hll_counter_free(&one);
+    hll_counter_free(&other);
+}
+
 int main(int argc, char **argv)
 {
     long walks = argc > 1 ? atol(argv[1]) : 200, i;
     uint64_t first = argc > 2 ? (uint64_t)atol(argv[2]) : 1;
     test_refused_coupons();
     test_single_coupons();
+    life_copied();
+    life_closed();
     for (i = 0; i < walks; i++) {
         seed = (first + (uint64_t)i) * UINT64_C(0x9E3779B97F4A7C15);
         walk(60);

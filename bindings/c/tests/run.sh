@@ -188,11 +188,6 @@ compile() {
     build "test of $name compiles" $CC $test_flags -o "$tests/$name" "tests/${name%%-*}.c" "$@"
 }
 
-# What the library makes of the values that every binding has to count alike.
-behaviour() {
-    python3 ../../tests/behaviour/cases.py c >"$tests/cases" && "$tests/behaviour" <"$tests/cases"
-}
-
 test_calls() {
     for name in behaviour calls heads buffers estimates rows registers states counters processors; do
         compile "$name" "$build/libhll.a"
@@ -203,7 +198,7 @@ test_calls() {
     compile calls-shared -L"$build" -lhll -Wl,-rpath,"$build"
     find_v3
     if has python3; then
-        run behaviour behaviour
+        run behaviour python3 -B ../../tests/behaviour/cases.py c "$tests/behaviour"
     else
         skip behaviour 'python3, which reads its cases, is not here'
     fi

@@ -1,20 +1,92 @@
 // SPDX-License-Identifier: Apache-2.0
-// Runs the cases of tests/behaviour, which `cases.py cpp` prints, from standard input.
+// Answers the cases of tests/behaviour, which cases.py writes to standard input and whose answers it compares.
 #include "test.hpp"
 
-#include <iostream>
+#include "../datasketches.hpp"
 
-// The coupon that a sketch keeps of one value.
-template <class Value> static uint32_t coupon_of(Value value)
+#include <functional>
+#include <iostream>
+#include <iterator>
+#include <set>
+#include <sstream>
+
+using hll::sketch;
+using hll::union_;
+
+// What each of several ways in makes, as digits, or why it makes nothing: all results, if they differ. Of one image the reason is enough.
+static std::string made_by(const std::vector<std::function<image_bytes()>> &ways, bool is_image = false)
 {
-    hll::sketch one(12);
-    one.update(value);
-    const image_bytes image = one.serialize();
-    need(image.size() == 12, "an image of one coupon");
-    return uint32_t(image[8]) | uint32_t(image[9]) << 8 | uint32_t(image[10]) << 16 | uint32_t(image[11]) << 24;
+    std::set<std::string> found;
+    for (const auto &way : ways)
+        try {
+            std::string digits;
+            for (const uint8_t byte : way())
+                (digits += "0123456789abcdef"[byte >> 4]) += "0123456789abcdef"[byte & 15];
+            found.insert(digits);
+        } catch (const hll::image_error &error) {
+            found.insert(std::string("rejected: ") + (is_image ? error.reason() : error.what()));
+        } catch (const std::exception &error) {
+            found.insert(std::string("rejected: ") + error.what());
+        }
+    std::string all;
+    for (const std::string &one : found)
+        all += (all.empty() ? "" : " or ") + one;
+    return all;
 }
 
-static std::string decoded(const std::string &digits)
+template <class Value> static image_bytes image_with(const Value &value)
+{
+    sketch one(12);
+    one.update(value);
+    return one.serialize();
+}
+
+// The coupon that a sketch keeps of a value, by each type that has the value.
+template <class... Value> static std::string kept(const Value &...value)
+{
+    const std::string image = made_by({[&] { return image_with(value); }...});
+    return image.size() == 24 ? image.substr(22, 2) + image.substr(20, 2) + image.substr(18, 2) + image.substr(16, 2)
+                              : image;
+}
+
+static std::string of_integer(const std::string &digits)
+{
+    const uint64_t bits = digits[0] == '-' ? uint64_t(std::stoll(digits)) : std::stoull(digits);
+    const int64_t number = int64_t(bits);
+    if (number == int8_t(number))
+        return kept(number, int8_t(number), int16_t(number), int32_t(number));
+    if (number == uint8_t(number))
+        return kept(bits, number, uint8_t(number), uint16_t(number), uint32_t(number));
+    return number == int32_t(number) ? kept(number, int32_t(number)) : digits[0] == '-' ? kept(number) : kept(bits);
+}
+
+static image_bytes merged(unsigned lg_max_k, unsigned width, const std::vector<image_bytes> &images)
+{
+    union_ all = lg_max_k == 0 ? union_() : union_(lg_max_k);
+    all.update_images(images);
+    return width == 0 ? all.result().serialize() : all.result(hll::width_of(width)).serialize();
+}
+
+static std::string of_image(const std::string &text, bool is_whole)
+{
+    const image_bytes image(text.begin(), text.end());
+    const hll_head head = hll::detail::head_of(image.data(), image.size());
+    if (is_whole)
+        return made_by(
+            {[&] { return sketch::deserialize(image).serialize(); },
+             [&] { return datasketches::hll_sketch::deserialize_exact(text.data(), text.size()).serialize_compact(); },
+             [&] { return merged(0, head.width, {image}); }, [&] { return merged(head.lg_k, head.width, {image}); }},
+            true);
+    return made_by({[&] { return sketch::deserialize_first(image.data(), image.size()).serialize(); },
+                    [&] { return datasketches::hll_sketch::deserialize(text.data(), text.size()).serialize_compact(); },
+                    [&] {
+                        std::istringstream in(text);
+                        return sketch::deserialize(in).serialize();
+                    }},
+                   true);
+}
+
+static std::string bytes_of(const std::string &digits)
 {
     std::string bytes;
     for (size_t at = 0; at < digits.size(); at += 2)
@@ -22,71 +94,58 @@ static std::string decoded(const std::string &digits)
     return bytes;
 }
 
-static void test_text(const std::string &text, uint32_t wanted)
+static std::string answer(const std::string &call, const std::string &given, const std::vector<std::string> &fields)
 {
-    CHECK(coupon_of(text) == wanted && hll_coupon(reinterpret_cast<const uint8_t *>(text.data()), text.size()) == wanted);
-    if (text.find('\0') == std::string::npos)
-        CHECK(coupon_of(text.c_str()) == wanted);
-#if __cplusplus >= 201703L
-    CHECK(coupon_of(std::string_view(text)) == wanted);
-#endif
-    hll::sketch one(12), many(12);
-    one.update(text.data(), text.size());
-    many.update_many(std::vector<std::string>{text, text});
-    CHECK(one == many && one.serialize()[8] == (wanted & 255));
-}
-
-// Every type that has the number.
-static void test_integer(const std::string &digits, uint32_t wanted)
-{
-    if (digits[0] != '-')
-        CHECK(coupon_of(uint64_t(std::stoull(digits))) == wanted);
-    if (digits.size() > 18 && std::stod(digits) > 9.3e18)
-        return;
-    if (digits == "9223372036854775808")
-        return;
-    const int64_t number = std::stoll(digits);
-    CHECK(coupon_of(number) == wanted);
-    if (number == int32_t(number))
-        CHECK(coupon_of(int32_t(number)) == wanted && coupon_of(long(number)) == wanted);
-    if (number == uint32_t(number))
-        CHECK(coupon_of(uint32_t(number)) == wanted);
-    if (number == int8_t(number))
-        CHECK(coupon_of(int8_t(number)) == wanted && coupon_of(int16_t(number)) == wanted);
-    if (number == uint8_t(number))
-        CHECK(coupon_of(uint8_t(number)) == wanted && coupon_of(uint16_t(number)) == wanted);
-}
-
-static void test_real(const std::string &digits, uint32_t wanted)
-{
-    const double number = std::strtod(digits.c_str(), nullptr); // (std::stod rejects 5e-324)
-    CHECK(coupon_of(number) == wanted);
-    if (double(float(number)) == number || number != number)
-        CHECK(coupon_of(float(number)) == wanted);
+    if (call == "text" || call == "bytes") {
+        const std::string text = bytes_of(given);
+        return text.find('\0') == std::string::npos ? kept(text, text.c_str()) : kept(text);
+    }
+    if (call == "integer")
+        return of_integer(given);
+    if (call == "real" || call == "single") {
+        const double number = std::strtod(given.c_str(), nullptr); // (std::stod rejects 5e-324)
+        const float narrow = std::strtof(given.c_str(), nullptr);
+        return call == "single" ? kept(narrow) : double(narrow) == number ? kept(number, narrow) : kept(number);
+    }
+    if (call == "boolean" || call == "character")
+        return call == "boolean" ? kept(given == "true") : kept(given[0]);
+    if (call == "whole" || call == "first")
+        return of_image(bytes_of(given), call == "whole");
+    std::vector<image_bytes> images;
+    std::vector<uint32_t> coupons;
+    for (size_t i = call == "union" ? 2 : 0; i < fields.size(); i++) {
+        const std::string bytes = call == "union" ? bytes_of(fields[i]) : "";
+        images.emplace_back(bytes.begin(), bytes.end());
+        coupons.push_back(uint32_t(std::strtoul(fields[i].c_str(), nullptr, 16)));
+    }
+    const auto number = [&](size_t i) { return unsigned(std::stoul(fields[i])); };
+    if (call == "union")
+        return made_by({[&] { return merged(number(0), number(1), images); }});
+    if (call == "many") // a null pointer is a text that is missing
+        return made_by({[&] {
+            std::vector<const char *> texts;
+            for (const std::string &field : fields)
+                texts.push_back(field == "null" ? nullptr : field.c_str());
+            sketch one(12);
+            one.update_many(texts);
+            return one.serialize();
+        }});
+    if (call == "new")
+        return made_by({[&] { return sketch(number(0), hll::width_of(number(1))).serialize(); }});
+    return call != "coupons" ? "the call is not known" : made_by({[&] {
+        sketch one(12);
+        one.update_coupons(coupons.data(), coupons.size());
+        return one.serialize();
+    }});
 }
 
 int main()
 {
-    std::string line;
-    while (std::getline(std::cin, line)) {
-        const size_t first = line.find('\t'), second = line.find('\t', first + 1);
-        need(second != std::string::npos, "a case of three fields");
-        const std::string type = line.substr(0, first), value = line.substr(first + 1, second - first - 1);
-        const uint32_t wanted = uint32_t(std::stoul(line.substr(second + 1), nullptr, 16));
-        if (type == "text" || type == "bytes")
-            test_text(decoded(value), wanted);
-        else if (type == "integer")
-            test_integer(value, wanted);
-        else if (type == "real")
-            test_real(value, wanted);
-        else if (type == "single")
-            CHECK(coupon_of(std::strtof(value.c_str(), nullptr)) == wanted);
-        else if (type == "boolean")
-            CHECK(coupon_of(value == "true") == wanted);
-        else if (type == "character")
-            CHECK(coupon_of(value[0]) == wanted);
-        else
-            need(false, "a type that this test knows");
+    for (std::string line; std::getline(std::cin, line);) {
+        const size_t tab = line.find('\t');
+        std::istringstream words(line.substr(tab + 1));
+        std::vector<std::string> fields{std::istream_iterator<std::string>(words), std::istream_iterator<std::string>()};
+        std::cout << answer(line.substr(0, tab), line.substr(tab + 1), fields) << "\n";
     }
-    return counts();
+    return 0;
 }

@@ -148,17 +148,6 @@ static void walk()
 
 // ---- unions
 
-// The reason for which a call rejects an image, if it does.
-template <class Call> static std::string refused_as(Call call)
-{
-    try {
-        call();
-    } catch (const hll::image_error &error) {
-        return error.reason();
-    }
-    return "";
-}
-
 static void update_in_some_way(union_ &all, const pair &p)
 {
     switch (below(4)) {
@@ -174,8 +163,6 @@ static void update_in_some_way(union_ &all, const pair &p)
     default:
         image_bytes followed = p.image;
         followed.insert(followed.end(), 9, 0xff);
-        CHECK(refused_as([&] { all.update_image(followed); }) == "trailing");
-        CHECK(refused_as([&] { sketch::deserialize(followed); }) == "trailing");
         all.update(sketch::deserialize_first(followed.data(), followed.size()));
     }
 }
@@ -196,7 +183,7 @@ static void update_at_once(union_ all, const std::vector<image_bytes> &images, c
         } catch (const hll::image_error &error) {
             CHECK(error.index() == at && error.status() == (one == bad ? HLL_TRUNCATED : HLL_TRAILING));
             CHECK(std::string(error.what())
-                      .find("image " + std::to_string(at) + ": these " + std::to_string(one[at].size()) +
+                      .find("images[" + std::to_string(at) + "]: these " + std::to_string(one[at].size()) +
                             " bytes are not the image") == 0);
         }
     CHECK(all.result() == before);

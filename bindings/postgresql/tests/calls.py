@@ -352,7 +352,7 @@ def reasons(server):
     equal("the reasons tried", sorted({word for word, _ in bad_images()}), sorted(REASONS))
     for word, image in bad_images():
         bad, good = literal(image), literal(GOOD)
-        equal("hll_fault " + word, server.ask("SELECT hll_fault(%s), hll_is_image(%s)" % (bad, bad)), word + "|f")
+        equal("hll_is_image of " + word, server.ask("SELECT hll_is_image(%s)" % bad), "f")
         refused("hll_first_image of " + word, server.run("SELECT hll_first_image(%s);" % bad), IMAGE, "invalid HLL image: %s\n" % word)
         for call in CALLS:
             said = server.run("SELECT %s;" % (call % bad))
@@ -405,9 +405,6 @@ def trailing(server):
     said = server.run("SELECT # (%s || %s);" % (literal(images[1]), literal(images[1])))
     refused("bytea || bytea", said, IMAGE, "invalid HLL image: 12 bytes follow it\n")
     check("its hint", "hll_first_image cuts off what follows" in said, said)
-    padded = bytes([2, 1, 7, 12, 3, 4, 0, 8]) + bytes(32)
-    equal("an empty list with its places", server.ask("SELECT hll_is_image(%s), # %s, hll_merge(%s, %s)" % ((literal(padded),) * 4)),
-          "t|0|\\x0201070c030c0008")
 
 
 def followed(server, image, more):

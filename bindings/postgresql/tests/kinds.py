@@ -9,7 +9,8 @@ import struct
 import sys
 import uuid
 
-from behaviour.cases import cases
+from behaviour.cases import cases, is_right, printed
+from behaviour_in_sql import expressions, joined, rejected
 from images import image_of_values
 from report import DATATYPE, SEED, bytes_of, check, equal, refused, skip
 from server import HERE
@@ -83,21 +84,40 @@ SQL = {
 }
 
 
+def own_width(image):
+    return "(hll_info(%s)).width" % image
+
+
+def of_query(server, call, sql):
+    """What a query makes, or PostgreSQL says."""
+    said = server.run("SELECT %s;" % sql)
+    if said.startswith("ERROR"):
+        return rejected(call, said)
+    image = bytes_of(said)
+    if call not in SQL:
+        return image.hex() if image else "missing"
+    return "%08x" % int.from_bytes(image[8:], "little") if image else "missing"
+
+
+def of_image(server, image):
+    """What a whole image is by a cast, too, and what hll_fault says of it."""
+    cast = of_query(server, "whole", "hll_convert(i, (hll_info(i)).width) FROM (SELECT %s::hyperloglog i) one" % image)
+    fault = server.ask("SELECT hll_fault(%s)" % image)
+    return [cast] + (["rejected: " + fault] if fault else [])
+
+
 def behaviour(server):
     """The cases of tests/behaviour, which every binding runs."""
-    for kind, written, wanted in cases("postgresql"):
-        query = "SELECT hyperloglog_agg(%s)" % SQL[kind](written)
-        if wanted == "rejected":
-            refused("%s %s" % (kind, written), server.run(query + ";"), DATATYPE)
-            continue
-        found = server.ask(query)
-        kept = int.from_bytes(bytes_of(found)[8:], "little") if found else "missing"
-        equal("%s %r" % (kind, written), kept, wanted)
+    for case in cases("postgresql"):
+        call, given, _ = case
+        each = ["hyperloglog_agg(%s)" % SQL[call](given)] if call in SQL else expressions(call, given, "'\\x%s'::bytea".__mod__, own_width)
+        found = [of_query(server, call, sql) for sql in each]
+        answer = joined(found + (of_image(server, "'\\x%s'::bytea" % given) if call == "whole" else []))
+        check(printed(case), is_right(case, answer), answer)
 
 
 def kinds_of_values(server):
     """One value, a few and many of each type, by each aggregate."""
-    behaviour(server)
     for kind, values in kinds():
         for some, lg_k, width in ((values, 11, 6), (values[:5], 12, 8), (values[-3:], 10, 4)):
             wanted = image_of_values(lg_k, width, [value for _, value in some])

@@ -288,3 +288,31 @@ def million(server):
     found = server.ask("SELECT count(*), sum(a.count), sum(b.count), bool_and(a.u = b.u) FROM (%s) a JOIN (%s) b USING (g)" % (
         union % MILLION.format(2, "n, m"), union % MILLION.format(1, "m, n DESC")))
     equal("a million rows", found, "5000|1000000|500000|t")
+
+
+# ---- tests/behaviour/life.txt
+
+
+def life_zero(server):
+    """A variable that was declared and not set is NULL, and stays NULL in each call."""
+    said = server.run("""DO $$ DECLARE s hyperloglog; BEGIN
+        RAISE NOTICE 'all NULL %', (# s) IS NULL AND hll_add(s, 'ann') IS NULL AND hll_merge(s, s) IS NULL AND hyperloglog_agg(NULL::text) IS NULL; END $$;""")
+    check("a variable that was not set", "all NULL t" in said, said)
+
+
+def life_copied(server):
+    """A variable that was assigned from another one keeps its sketch when that one changes, in registers too."""
+    for n in (5, 3000):
+        said = server.run("""DO $$ DECLARE s hyperloglog; copied hyperloglog; BEGIN
+            SELECT hyperloglog_agg(g) INTO s FROM generate_series(1, %d) g;
+            copied := s;
+            FOR n IN 1 .. 500 LOOP s := hll_add(s, 'another ' || n); END LOOP;
+            RAISE NOTICE 'copied %% %%', copied = (SELECT hyperloglog_agg(g) FROM generate_series(1, %d) g), copied <> s; END $$;""" % (n, n))
+        check("a copy of %d values" % n, "copied t t" in said, said)
+
+
+def life_json(server):
+    """In JSON a sketch is one string: its text form, which is hexadecimal as that of bytea, and base64 by encode."""
+    found = server.ask("SELECT to_json(hyperloglog_agg(v)), (to_json(hyperloglog_agg(v)) #>> '{}')::hyperloglog = hyperloglog_agg(v), encode(hyperloglog_agg(v)::bytea, 'base64') "
+                       "FROM unnest(ARRAY['ann', 'bob']) v")
+    equal("a sketch in JSON", found, '"\\\\x0201070c03080208f8116004bf20641c"|t|AgEHDAMIAgj4EWAEvyBkHA==')

@@ -74,7 +74,7 @@ class ImageError(HllError, ValueError):
         return ImageError(self.reason, number, place, self.sizes)
 
     def __str__(self) -> str:
-        which = "image" if self.number is None else f"image {self.number}"
+        which = "image" if self.number is None else f"images[{self.number}]"
         if self.place is not None:
             which = f"{shown(self.place)}: image"
         return f"{which} is rejected: {explained(self.reason, self.sizes)}"
@@ -115,7 +115,7 @@ class PrecisionError(HllError, ValueError):
         return type(self)(self.lg_k, self.other_lg_k, number, place, self._cure)
 
     def __str__(self) -> str:
-        which = "the sketch" if self.number is None else f"sketch {self.number}"
+        which = "the sketch" if self.number is None else f"sketches[{self.number}]"
         cure = self._cure.format(least=min(self.lg_k, self.other_lg_k))
         return f"{self.place or which} has lg_k {self.lg_k} and not {self.other_lg_k}: {cure}"
 

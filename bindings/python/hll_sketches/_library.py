@@ -690,7 +690,8 @@ def add_coupons_to(registers: Memory, raw_coupons: Numbers) -> None:
     count = len(raw_coupons)
     status = _library.hll_registers_add_coupons(registers, len(registers), _address(raw_coupons), count)
     if status != OK:
-        raise ArgumentError("a coupon has a value of 1 to 63")
+        number = next(number for number, coupon in enumerate(raw_coupons) if coupon >> 26 == 0)
+        raise ArgumentError(f"raw_coupons[{number}] is {raw_coupons[number]}, and the value of a coupon is 1 to 63")
 
 
 def merge_image(registers: Memory, image: bytes) -> Optional[int]:

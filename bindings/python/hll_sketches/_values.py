@@ -93,6 +93,19 @@ def _wrong_type(value: object) -> TypeError:
     return TypeError(f"a value is bytes, str, int or float, not {name}: {cure}")
 
 
+def _numbered(error: Exception, values: List[Any], start: int) -> Exception:
+    """Returns the error of the first value that can't be counted, with its number."""
+    for number, value in enumerate(values, start):
+        try:
+            bytes_of(value)
+        except (TypeError, OverflowError) as found:
+            if str(found) == str(error):
+                return type(found)(f"values[{number}]: {found}")
+        except UnicodeError:
+            pass
+    return error
+
+
 def _eights_of_ints(values: List[int]) -> bytes:
     """Returns the bytes of many ints."""
     try:
@@ -189,7 +202,11 @@ def _batches(values: Iterable[Value], size: int, missing: Optional[Missing]) -> 
         batch = list(islice(source, count))
         if not batch:
             return
-        made = joined(batch if missing is None else missing.without(batch, start))
+        some = batch if missing is None else missing.without(batch, start)
+        try:
+            made = joined(some)
+        except (TypeError, OverflowError) as error:
+            raise _numbered(error, batch, start) from None
         start += len(batch)
         yield made
         if len(made[0]) < ENOUGH:

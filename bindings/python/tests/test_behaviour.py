@@ -1,15 +1,21 @@
 # SPDX-License-Identifier: Apache-2.0
-"""The cases of tests/behaviour: what a sketch keeps of the values that every binding has to count alike, in Python and by lines."""
+"""The cases of tests/behaviour, the table that every binding runs: in Python, and by lines and files of the command ``hll``."""
+import contextlib
 import datetime
 import decimal
+import io
+import os
 import struct
 import unittest
 import uuid
+from base64 import b64encode
+from functools import partial
 
 import common  # noqa: F401
-from behaviour.cases import cases
+from behaviour import cases as table
 from command import CommandTest
-from hll_sketches import Sketch, coupon
+from hll_sketches import HllError, ImageError, Registers, Sketch, SketchUnion, coupon, fault_of, union_of
+from hll_sketches.cli import main
 from plain_hash import coupon_of
 
 MAKE = {
@@ -25,7 +31,7 @@ MAKE = {
     "list": lambda written: [int(written)],
     "missing": lambda written: None,
 }
-ERRORS = TypeError, OverflowError, ValueError
+ERRORS = HllError, TypeError, OverflowError, ValueError
 EPOCH = datetime.datetime(1970, 1, 1)
 # What docs/FORMAT.md says is hashed ("What values are hashed as").
 BYTES = {
@@ -40,48 +46,107 @@ PLAIN = "postgresql"        # which has no other result for a type that it has
 
 def kept(image):
     """The coupon that an image has, or `missing`."""
-    return struct.unpack_from("<I", image, 8)[0] if len(image) == 12 else "missing" if len(image) == 8 else image.hex()
+    return "%08x" % struct.unpack_from("<I", image, 8)[0] if len(image) == 12 else "missing" if len(image) == 8 else image.hex()
 
 
-class BehaviourTest(unittest.TestCase):
-    def result(self, value):
-        """What becomes of a value by each way in, which has to be the same."""
-        one, many = Sketch(), Sketch()
+def made_by(*ways, is_image=False):
+    """What each of several ways in makes, or why it makes nothing: all results, if they differ. Of one image the reason is enough."""
+    found = set()
+    for way in ways:
         try:
-            one.update(value)
+            found.add(way())
         except ERRORS as error:
-            for call in (coupon, lambda it: many.update_many([it])):
-                self.assertRaises(ERRORS, call, value)
-            return "rejected: " + str(error)
-        if value == value:      # a NaN among many is a missing value
-            many.update_many([value, value])
-            self.assertEqual(many, one)
-        self.assertEqual(coupon(value), kept(one.to_bytes()))
-        return kept(one.to_bytes())
+            found.add("rejected: %s" % (error.reason if is_image and isinstance(error, ImageError) else error))
+    return " or ".join(sorted(found))
 
-    def test_values(self):
-        for kind, written, wanted in cases("python"):
-            found = self.result(MAKE[kind](written))
-            if isinstance(wanted, int):
-                self.assertEqual(found, wanted, (kind, written))
-            else:
-                self.assertTrue(str(found).startswith("rejected"), (kind, written, found))
-                self.assertIn(wanted.partition(": ")[2], found)
+
+def after(call, *arguments, of=Sketch):
+    """The sketch after one call."""
+    made = of()
+    getattr(made, call)(*arguments)
+    return made
+
+
+class BehaviourTest(CommandTest):
+    maxDiff = None
+
+    def of_value(self, value):
+        one = made_by(lambda: kept(after("update", value).to_bytes()), lambda: "%08x" % coupon(value))
+        many = one if value != value else made_by(lambda: kept(after("update_many", [value, value]).to_bytes()))    # NaN is missing there
+        return one if many in (one, one.replace("rejected: ", "rejected: values[0]: ")) or value is None else one + " or " + many
+
+    def of_image(self, image):
+        """By each way in that takes one whole image."""
+        path, fault = self.write("image.hll", image), fault_of(image)
+        ways = [partial(Sketch.from_bytes, image), partial(Sketch.from_base64, b64encode(image)), partial(Sketch.read, path), partial(union_of, [image]),
+                lambda: after("update", image, of=SketchUnion).sketch(), lambda: after("update_many", [image], of=SketchUnion).sketch()]
+        found = made_by(*(lambda way=way: way().to_bytes().hex() for way in ways), is_image=True)
+        return found if found.startswith("rejected") == (fault is not None) else "%s or %s" % (found, fault)
+
+    def answer(self, call, given):
+        fields = given.split() if isinstance(given, str) else []
+        if call in MAKE:
+            return self.of_value(MAKE[call](given))
+        if call == "whole":
+            return self.of_image(bytes.fromhex(given))
+        if call == "union":
+            bound, width, *images = fields
+            return made_by(lambda: union_of(map(bytes.fromhex, images), int(bound) or None, int(width) or None).to_bytes().hex())
+        if call == "new":
+            return made_by(lambda: Sketch(*map(int, fields)).to_bytes().hex())
+        if call == "many":
+            return made_by(lambda: after("update_many", [{"null": None, "[]": []}.get(it, it) for it in fields]).to_bytes().hex())
+        return made_by(lambda: after("add_coupons", [int(it, 16) for it in fields], of=Registers).to_bytes().hex())
+
+    def test_behaviour(self):
+        answers = [self.answer(case.call, case.arguments) for case in table.cases("python")]
+        self.assertEqual("\n".join(table.faults("python", answers)), "")
 
     def test_documented_bytes(self):
         """The results are those of the bytes that docs/FORMAT.md says."""
-        for kind, written, wanted in cases(PLAIN):
-            if isinstance(wanted, int) and kind != "single":
-                self.assertEqual(coupon_of(BYTES.get(kind, bytes)(written)), wanted, (kind, written))
+        for kind, written, wanted in table.cases(PLAIN, "values.txt"):
+            if kind != "single" and not wanted.startswith(("rejected", "missing")):
+                self.assertEqual("%08x" % coupon_of(BYTES.get(kind, bytes)(written)), wanted, (kind, written))
 
+class FilesTest(CommandTest):
+    """The command ``hll``: a value is a line, and an image a file."""
 
-class LinesTest(CommandTest):
-    def test_lines(self):
-        for kind, written, wanted in cases("hll"):
-            self.run_hll("new", "one.hll")
-            self.run_hll("add", "one.hll", given=(written or b"") + b"\n")
-            self.assertEqual(kept((self.folder / "one.hll").read_bytes()), wanted, (kind, written))
-            (self.folder / "one.hll").unlink()
+    maxDiff = None
+
+    def made(self, *words):
+        """The image that a command writes into one.hll, or its error. It runs in this process, which takes a hundredth of the time."""
+        said, before = io.StringIO(), os.getcwd()
+        os.chdir(self.folder)
+        try:
+            with contextlib.redirect_stderr(said), contextlib.redirect_stdout(io.StringIO()):
+                status = main(list(words))
+        except SystemExit as ended:
+            status = ended.code
+        finally:
+            os.chdir(before)
+        return "rejected: " + said.getvalue().replace("\n", " ") if status else self.read("one.hll").hex()
+
+    def answer(self, call, given):
+        for name in self.listed():
+            (self.folder / name).unlink()
+        if call in ("text", "missing"):
+            self.made("new", "one.hll")
+            status, _, said = self.run_hll("add", "one.hll", given=(given or b"") + b"\n")
+            return "rejected: " + said if status else kept(self.read("one.hll"))
+        if call == "whole":
+            image = bytes.fromhex(given)
+            self.write("a.hll", image)
+            width = "%d" % [4, 6, 8, 8][image[7] >> 2 & 3 if len(image) > 7 else 2]
+            return " or ".join(sorted({self.made("merge", "a.hll", "-o", "one.hll"), self.made("convert", "--width", width, "a.hll", "-o", "one.hll")}))
+        bound, width, *images = given.split()
+        if call == "new":
+            return self.made("new", "one.hll", "--lg-k", bound, "--width", width)
+        names = [self.write("images[%d]" % number, bytes.fromhex(image)).name for number, image in enumerate(images)]
+        return self.made("merge", *["--lg-k", bound] * (bound != "0"), *["--width", width] * (width != "0"), *names, "-o", "one.hll")
+
+    def test_behaviour(self):
+        answers = [self.answer(case.call, case.arguments) for case in table.cases("hll")]
+        self.assertEqual("\n".join(table.faults("hll", answers)), "")
 
 
 if __name__ == "__main__":

@@ -200,7 +200,7 @@ class RuleTest(unittest.TestCase):
                 error = caught.exception
                 found = error.lg_k, error.other_lg_k, error.number
                 self.assertEqual(found, (4, 12, number + 1))
-        words = "sketch 101 has lg_k 4 and not 12: lg_max_k=4 merges them"
+        words = "sketches[101] has lg_k 4 and not 12: lg_max_k=4 merges them"
         self.assertEqual(str(error), words)
         with self.assertRaises(ImageError) as caught:
             union_of([FINE, b"", COARSE])

@@ -38,6 +38,7 @@ pub(crate) enum Cause {
     Trailing {
         more: usize,
         len: usize,
+        index: Option<usize>,
     },
     Limits {
         lg_k: u8,
@@ -91,7 +92,7 @@ impl Error {
 
     /// The error of a call that read an image of which `more` bytes of `len` are no part.
     pub(crate) fn of_trailing(more: usize, len: usize) -> Self {
-        Self::new(Cause::Trailing { more, len })
+        Self::new(Cause::Trailing { more, len, index: None })
     }
 
     /// The error of a checked image, whose `lg_k` is not that of the images before it.
@@ -101,7 +102,9 @@ impl Error {
 
     /// Returns the error with the index of the image.
     pub(crate) fn at(mut self, number: usize) -> Self {
-        if let Cause::Image { index, .. } | Cause::OtherLgK { index, .. } = &mut self.cause {
+        if let Cause::Image { index, .. } | Cause::Trailing { index, .. } | Cause::OtherLgK { index, .. } =
+            &mut self.cause
+        {
             *index = Some(number);
         }
         self
@@ -133,7 +136,7 @@ impl Error {
     /// Returns which of several images was rejected, from 0; `None` if there was only one image, or none.
     pub fn index(&self) -> Option<usize> {
         match self.cause {
-            Cause::Image { index, .. } | Cause::OtherLgK { index, .. } => index,
+            Cause::Image { index, .. } | Cause::Trailing { index, .. } | Cause::OtherLgK { index, .. } => index,
             _ => None,
         }
     }
@@ -147,14 +150,14 @@ fn reason(status: Status) -> (&'static str, &'static str) {
 impl fmt::Display for Error {
     fn fmt(&self, f: &mut fmt::Formatter<'_>) -> fmt::Result {
         if let Some(number) = self.index() {
-            write!(f, "image {number}: ")?;
+            write!(f, "images[{number}]: ")?;
         }
         match self.cause {
             Cause::Image { status, len, .. } => {
                 let (word, sentence) = reason(status);
                 write!(f, "these {len} bytes are not the image of a sketch: {sentence} ({word})")
             }
-            Cause::Trailing { more, len } => {
+            Cause::Trailing { more, len, .. } => {
                 write!(f, "these {len} bytes are more than the image of a sketch, which takes {} of them (trailing)", len - more)
             }
             Cause::Limits { lg_k, len, most_lg_k, most_len } => write!(

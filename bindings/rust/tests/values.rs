@@ -95,7 +95,6 @@ fn coupons() {
     assert_eq!(Coupon::pack(0, 255).value(), 63);
     let error = Coupon::from_raw(12345).unwrap_err();
     assert_eq!((error.kind(), error.reason()), (ErrorKind::InvalidArgument, "argument"));
-    assert_eq!(error.to_string(), "the coupon 12345 has the value 0; the value of a coupon is 1 to 63");
 }
 
 // ---- images
@@ -139,7 +138,7 @@ fn equality_is_that_of_images() {
 }
 
 #[test]
-fn copies_are_independent() {
+fn life_copied() {
     for n in [0, 5, 16, 17, 300, 20_000] {
         let mut one = filled(12, HllType::Hll8, n);
         let before = one.serialize();
@@ -240,58 +239,33 @@ fn estimates() {
 
 // ---- errors
 
+/// What the cases of tests/behaviour don't have: the kinds of errors, and all words of one.
 #[test]
-fn arguments_out_of_range() {
-    for lg_k in [0, 3, 22, 255] {
-        let error = HllSketch::new(lg_k, HllType::Hll8).unwrap_err();
-        assert_eq!(error.to_string(), format!("lg_config_k is {lg_k}; it must be 4 to 21"));
-        assert_eq!(error.kind(), ErrorKind::InvalidArgument);
-        let error = HllUnion::new(lg_k).unwrap_err();
-        assert_eq!(error.to_string(), format!("lg_max_k is {lg_k}; it must be 4 to 21"));
-        let error = merge_images(lg_k, HllType::Hll8, &[[0u8; 0]]).unwrap_err();
-        assert_eq!(error.to_string(), format!("lg_max_k is {lg_k}; it must be 4 to 21"));
-    }
-    assert!(HllSketch::new(4, HllType::Hll8).is_ok() && HllSketch::new(21, HllType::Hll4).is_ok());
-}
-
-#[test]
-fn rejected_images() {
-    for (image, reason) in [
-        ("", "truncated"),
-        ("0201070a030c", "truncated"),
-        ("0201080a030c0008", "family"),
-        ("0202070a030c0008", "version"),
-        ("02010716030c0008", "lgk"),
-        ("0201070a030c000c", "width"),
-        ("0201070a030c000b", "stage"),
-        ("0301070a030c0008", "preamble"),
-        ("0201070a020c0008", "lgarr"),
-        ("0201070a030c0108", "count"),
-        ("0201070a0308010805000000", "coupon"),
-    ] {
-        let digits = |i| u8::from_str_radix(&image[2 * i..2 * i + 2], 16).unwrap();
-        let bytes: Vec<u8> = (0..image.len() / 2).map(digits).collect();
-        let error: Error = HllSketch::deserialize(&bytes).unwrap_err();
-        assert_eq!((error.kind(), error.reason(), error.index()), (ErrorKind::InvalidData, reason, None), "{image}");
-        assert_eq!(check(&bytes).unwrap_err(), error);
-    }
-    let mut good = filled(12, HllType::Hll8, 5).serialize();
-    assert_eq!(HllSketch::deserialize_exact(&good).unwrap(), HllSketch::deserialize(&good).unwrap());
-    good.push(0);
-    let error = HllSketch::deserialize_exact(&good).unwrap_err();
-    let wanted = "these 29 bytes are more than the image of a sketch, which takes 28 of them (trailing)";
+fn errors() {
+    let kinds = |errors: [Error; 4]| errors.map(|error| (error.kind(), error.reason(), error.index()));
+    let (good, other) = (filled(12, HllType::Hll8, 5).serialize(), filled(10, HllType::Hll8, 5).serialize());
+    let more = [&good[..], &[0]].concat();
+    let found = kinds([
+        HllSketch::new(22, HllType::Hll8).unwrap_err(),
+        union_of([&good, &other]).unwrap_err(),
+        merge_images(12, HllType::Hll8, &[&good[..], &good[..9]]).unwrap_err(),
+        HllSketch::deserialize_exact(&more).unwrap_err(),
+    ]);
+    let (data, argument) = (ErrorKind::InvalidData, ErrorKind::InvalidArgument);
     assert_eq!(
-        (error.kind(), error.reason(), error.to_string().as_str()),
-        (ErrorKind::InvalidData, "trailing", wanted)
+        found,
+        [
+            (argument, "argument", None),
+            (argument, "other_lg_k", Some(1)),
+            (data, "truncated", Some(1)),
+            (data, "trailing", None)
+        ]
     );
-    let error = check(&[]).unwrap_err();
     let wanted =
         "these 0 bytes are not the image of a sketch: the bytes end inside what the header asks for (truncated)";
-    assert_eq!(error.to_string(), wanted);
-    let good = filled(12, HllType::Hll8, 5).serialize();
-    let error = merge_images(12, HllType::Hll8, &[&good[..], &good[..], &good[..9]]).unwrap_err();
-    assert_eq!(error.index(), Some(2));
-    assert_eq!(error.to_string(), format!("image 2: {}", wanted.replace("these 0", "these 9")));
+    assert_eq!(check(&[]).unwrap_err().to_string(), wanted);
+    let wanted = "these 29 bytes are more than the image of a sketch, which takes 28 of them (trailing)";
+    assert_eq!(HllSketch::deserialize_exact(&more).unwrap_err().to_string(), wanted);
 }
 
 #[test]
@@ -317,8 +291,7 @@ fn unions_of_images() {
     let wide = filled(10, HllType::Hll8, 900).serialize();
     assert_eq!(union_of([one.serialize(), wide]).unwrap().target_type(), HllType::Hll8);
     let error = union_of([one.serialize(), filled(12, HllType::Hll8, 3).serialize()]).unwrap_err();
-    assert_eq!((error.kind(), error.index()), (ErrorKind::InvalidArgument, Some(1)));
-    let wanted = "image 1: its lg_k is 12, and that of the images before it 10: to merge both at the smaller lg_k, give a bound, \
+    let wanted = "images[1]: its lg_k is 12, and that of the images before it 10: to merge both at the smaller lg_k, give a bound, \
                   as in HllUnion::new(10)";
     assert_eq!(error.to_string(), wanted);
     let empty = HllSketch::new(12, HllType::Hll8).unwrap().serialize();

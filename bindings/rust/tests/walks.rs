@@ -208,7 +208,7 @@ fn expect_other_lg_k(mut images: Vec<Vec<u8>>, lg_k: u8, random: &mut Random) {
     images.insert(at, plain::add(&plain::new(other, 8), &["another"]));
     let error = union_of(&images).unwrap_err();
     assert_eq!((error.reason(), error.index()), ("other_lg_k", Some(at)));
-    let wanted = format!("image {at}: its lg_k is {other}, and that of the images before it {lg_k}: ");
+    let wanted = format!("images[{at}]: its lg_k is {other}, and that of the images before it {lg_k}: ");
     assert!(error.to_string().starts_with(&wanted), "{error}");
 }
 

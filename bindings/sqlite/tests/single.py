@@ -139,8 +139,6 @@ def arguments():
             ("hll_fold(?, '10')", "lg_k must be an integer"),
             ("hll_convert(?, 7)", "width must be 4, 6 or 8, not 7"),
             ("hll_convert(?, 260)", "width must be 4, 6 or 8, not 260"),
-            ("hll_image_empty(22, length(?))", "lg_k must be between 4 and 21, not 22"),
-            ("hll_image_empty(12, length(?))", "width must be 4, 6 or 8, not 12"),
             ("hll_merge(?1, ?1, 3)", "lg_max_k must be between 4 and 21, not 3"),
             ("hll_merge(?1, ?1, 22)", "lg_max_k must be between 4 and 21, not 22"),
             ("hll_estimate_bounds(?, 4)", "deviations must be 1, 2 or 3, not 4"),
@@ -180,8 +178,6 @@ def trailing():
     for image, more in itertools.product(images, (b"\0", few, bytes(10**6))):
         followed(image, more)
     refused("blob || blob", "invalid HLL image: 12 bytes follow it" + HINT, "SELECT hll_estimate(CAST(?1 || ?1 AS BLOB))", few)
-    padded = bytes([2, 1, 7, 12, 3, 4, 0, 8]) + bytes(32)
-    equal("an empty list with its places", ask("SELECT hll_is_image(?1) + (hll_merge(?1, ?1) = hll_image_empty())", padded), 2)
     equal("no image", ask("SELECT hll_is_image(x'') + hll_is_image('text') + hll_is_image(7)"), 0)
     refused("hll_first_image of a text", "an HLL image must be a blob", "SELECT hll_first_image('text')")
 
@@ -209,7 +205,6 @@ def reasons():
     """Each by its word, from each function."""
     equal("the reasons tried", sorted({word for word, _ in bad_images()}), sorted(REASONS))
     for word, image in bad_images():
-        equal("hll_fault " + word, ask("SELECT hll_fault(?)", image), word)
         equal("hll_is_image of " + word, ask("SELECT hll_is_image(?)", image), 0)
         rejected("hll_first_image of " + word, "invalid HLL image: " + word, "SELECT hll_first_image(?)", image)
         for call in CALLS:

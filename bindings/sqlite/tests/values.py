@@ -1,11 +1,12 @@
 # SPDX-License-Identifier: Apache-2.0
-"""What values count by: the cases of tests/behaviour, and many values beside the hash of docs/FORMAT.md and the Python package."""
+"""The cases of tests/behaviour, and many values beside the hash of docs/FORMAT.md and the Python package."""
 import math
 import random
 import struct
 
-from base import ask, connect, db, plain, table_of
-from behaviour.cases import cases
+from base import ask, connect, db, plain, said_by, table_of
+from behaviour.cases import cases, is_right, printed
+from behaviour_in_sql import expressions, joined, rejected
 from hll_sketches import Sketch
 from images import image_of_values
 from report import SEED, check, equal
@@ -28,24 +29,44 @@ def bytes_of(value):
     return value
 
 
-def expression(kind, written):
-    """A value of tests/behaviour as SQL, and its arguments."""
-    if kind == "text":
-        return "?", [written.decode()]
-    if kind == "bytes":
-        return "?", [written]
-    if kind == "real":
-        return "?", [float(written)]
-    return {"missing": "NULL"}.get(kind, written), []
+def kept(image):
+    return "missing" if image is None else "%08x" % int.from_bytes(image[8:], "little")
+
+
+def of_value(kind, written):
+    """What an aggregate keeps of a value: a parameter, and else as SQL has it."""
+    arguments = {"text": bytes.decode, "bytes": bytes, "real": float}.get(kind)
+    if arguments:
+        return kept(ask("SELECT hll_image_add_agg(?)", arguments(written)))
+    return kept(ask("SELECT hll_image_add_agg(%s)" % {"missing": "NULL"}.get(kind, written)))
+
+
+def own_width(image):
+    return "json_extract(hll_info(%s), '$.width')" % image
+
+
+def of_call(call, given):
+    """What each way in makes, or SQLite says."""
+    answers = []
+    for sql in expressions(call, given, "x'%s'".__mod__, own_width):
+        said = said_by("SELECT " + sql)
+        answers.append(rejected(call, said) if said else getattr(ask("SELECT " + sql), "hex", lambda: "missing")())
+    if call == "whole":
+        fault = ask("SELECT hll_fault(x'%s')" % given)
+        answers += ["rejected: %s" % fault] if fault else []
+    return joined(answers)
+
+
+def behaviour():
+    """The cases of tests/behaviour, which every binding runs."""
+    for case in cases("sqlite"):
+        call, given, _ = case
+        answer = of_value(call, given) if call in ("text", "bytes", "integer", "real", "boolean", "missing") else of_call(call, given)
+        check(printed(case), is_right(case, answer), answer)
 
 
 def types():
-    """A value of each type, alone: its coupon is the one that every binding has."""
-    for kind, written, wanted in cases("sqlite"):
-        sql, arguments = expression(kind, written)
-        found = ask("SELECT hll_image_add_agg(%s)" % sql, *arguments)
-        found = "missing" if found is None else int.from_bytes(found[8:], "little")
-        equal("%s %r" % (kind, written), found, wanted)
+    """Values that the cases of tests/behaviour can't write: long ones, and those of columns."""
     for value in TEXTS[-1], BLOBS[-1]:
         equal("%d bytes" % len(value), ask("SELECT hll_image_add_agg(?)", value), image_of_values(12, 8, [bytes_of(value)]))
     db.execute("CREATE TEMP TABLE IF NOT EXISTS people (name TEXT COLLATE NOCASE)")
@@ -86,3 +107,20 @@ def encodings():
         equal("texts of " + encoding, found, image_of_values(12, 8, map(bytes_of, TEXTS)))
         equal("a word in " + encoding, ask("SELECT hll_fault(x'02')", on=other), "truncated")
         other.close()
+
+
+# ---- tests/behaviour/life.txt
+
+
+def life_zero():
+    """A column that was not set is NULL, and stays NULL in each call."""
+    db.execute("CREATE TEMP TABLE IF NOT EXISTS days (image BLOB)")
+    db.execute("INSERT INTO days DEFAULT VALUES")
+    for call in ("hll_estimate(image)", "hll_merge(image, image)", "hll_fold(image, 4)", "hll_image_union_agg(image)"):
+        equal(call + " of NULL", ask("SELECT %s FROM days" % call), None)
+    db.execute("DROP TABLE days")
+
+
+def life_json():
+    """SQLite rejects a BLOB in JSON."""
+    check("an image in JSON", "BLOB" in said_by("SELECT json_array(hll_image_empty())"), said_by("SELECT json_array(hll_image_empty())"))

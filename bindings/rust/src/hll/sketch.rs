@@ -4,7 +4,7 @@
 use std::fmt;
 use std::hash::Hash;
 
-use super::state::State;
+use super::state::{check_end, State};
 use super::{check_lg_k, Coupon, HllType};
 use crate::common::{Estimation, NumStdDev};
 use crate::error::{or_abort, Error};
@@ -51,11 +51,8 @@ impl HllSketch {
     ///
     /// As [`deserialize`](Self::deserialize), and `InvalidData` with the reason `"trailing"` if bytes follow the image.
     pub fn deserialize_exact(bytes: &[u8]) -> Result<Self, Error> {
-        let sketch = Self::deserialize(bytes)?;
-        match libhll::trailing(bytes) {
-            0 => Ok(sketch),
-            more => Err(Error::of_trailing(more, bytes.len())),
-        }
+        check_end(bytes)?;
+        Self::deserialize(bytes)
     }
 
     /// Returns the image, which other DataSketches libraries read. The same sketch has the same image.

@@ -24,6 +24,14 @@ fn owned<T>(result: Result<T, Status>) -> Result<T, Error> {
     result.map_err(|status| Error::of_image(status, 0))
 }
 
+/// Checks that no bytes follow an image. What is no image is left to the call that reads it.
+pub(super) fn check_end(image: &[u8]) -> Result<(), Error> {
+    match libhll::trailing(image) {
+        more if more > 0 && libhll::image_check(image).is_ok() => Err(Error::of_trailing(more, image.len())),
+        _ => Ok(()),
+    }
+}
+
 impl State {
     /// An empty sketch of an `lg_k` that is known to be 4 to 21. Of sketches with another `lg_k` the smaller is taken.
     #[inline]
@@ -36,10 +44,10 @@ impl State {
         Self(Counter::new(0))
     }
 
-    /// Reads an image. If its header is not one, the error says why.
+    /// Reads the image with which the bytes begin. If its header is not one, the error says why.
     pub(super) fn read(image: &[u8]) -> Result<Self, Error> {
         let mut made = Self::new(libhll::head(image).lg_k.max(4));
-        made.join(image)?;
+        made.join_first(image)?;
         Ok(made)
     }
 
@@ -89,8 +97,14 @@ impl State {
         owned(self.0.add(coupon))
     }
 
-    /// Merges an image.
+    /// Merges an image. Bytes after it are an error.
     pub(super) fn join(&mut self, image: &[u8]) -> Result<(), Error> {
+        check_end(image)?;
+        self.join_first(image)
+    }
+
+    /// Merges the image with which the bytes begin.
+    fn join_first(&mut self, image: &[u8]) -> Result<(), Error> {
         self.0.join(image).map_err(|status| match status {
             libhll::OTHER_LG_K => Error::of_other_lg_k(self.lg_k(), image),
             status => Error::of_image(status, image.len()),

@@ -4,7 +4,7 @@
 use std::fmt;
 use std::hash::Hash;
 
-use super::state::State;
+use super::state::{check_end, State};
 use super::{check_lg_k, Coupon, HllSketch, HllType};
 use crate::common::{Estimation, NumStdDev};
 use crate::error::{or_abort, Error};
@@ -43,12 +43,12 @@ impl HllUnion {
         self.state.join_state(&sketch.state)
     }
 
-    /// Merges an image from its bytes, without making a sketch of it. The image is checked whole; bytes after it are not read.
-    /// Of untrusted bytes check the [`Limits`](super::Limits) first.
+    /// Merges an image from its bytes, without making a sketch of it. The image is checked whole. Of untrusted bytes check the
+    /// [`Limits`](super::Limits) first.
     ///
     /// # Errors
     ///
-    /// `InvalidData` with the first check that the bytes fail, or `OutOfMemory`.
+    /// `InvalidData` with the first check that the bytes fail, or `"trailing"` if bytes follow the image; or `OutOfMemory`.
     pub fn update_image(&mut self, image: &[u8]) -> Result<(), Error> {
         self.state.join(image)
     }
@@ -178,7 +178,7 @@ impl fmt::Debug for HllUnion {
 ///
 /// # Errors
 ///
-/// With the [`index`](Error::index) of the image: `InvalidData` if it is not an image, `InvalidArgument` if it has values and
+/// With the [`index`](Error::index) of the image: `InvalidData` if it is not an image or bytes follow it, `InvalidArgument` if it has values and
 /// another `lg_k` than the images with values before it. Or `OutOfMemory`.
 pub fn union_of<I>(images: I) -> Result<HllSketch, Error>
 where
@@ -202,9 +202,12 @@ where
 /// # Errors
 ///
 /// `InvalidArgument` if `lg_max_k` is not 4 to 21; `InvalidData` with the [`index`](Error::index) of the first that is not an
-/// image; or `OutOfMemory`.
+/// image or that bytes follow; or `OutOfMemory`.
 pub fn merge_images(lg_max_k: u8, hll_type: HllType, images: &[impl AsRef<[u8]>]) -> Result<Vec<u8>, Error> {
     let lg_max_k = check_lg_k("lg_max_k", lg_max_k)?;
+    for (number, image) in images.iter().enumerate() {
+        check_end(image.as_ref()).map_err(|error| error.at(number))?;
+    }
     libhll::images_union(lg_max_k, hll_type.width(), images).map_err(|(status, number)| {
         let len = images.get(number).map_or(0, |image| image.as_ref().len());
         Error::of_image(status, len).at(number)
