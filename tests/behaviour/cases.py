@@ -117,6 +117,38 @@ LIFE = {"c": r"void life_%s\(", "cpp": r"void life_%s\(", "rust": r"fn life_%s\(
 """What a test of life.txt is named in each binding."""
 
 
+ROWS = {"bytes": "bytes", "text": "text", "an integer": "integer", "a real number": "real", "true, false": "boolean", "a date": "date", "a time": "time",
+        "a UUID": "uuid"}
+"""The first cells of FORMAT's table of values, with the types of values.txt."""
+
+
+def documented():
+    """Returns the rows of FORMAT's table of values by their type: the cells after the first two."""
+    section = (TOP / "docs/FORMAT.md").read_text().partition("\n## What values are hashed as\n")[2].partition("\n## ")[0]
+    rows = [[cell.strip() for cell in line.strip("|").split(" | ")] for line in section.splitlines() if line.startswith("| ")]
+    return {ROWS[first]: more for first, _, *more in rows if first in ROWS}
+
+
+def faults_of_format():
+    """Where FORMAT's table of values and values.txt differ: a row for each type that every binding counts by its bytes, an example
+    whose bytes have the coupon of the table, and where Python or SQL differ, the reason or what to pass instead."""
+    sys.path.append(str(HERE.parent))
+    from plain_hash import coupon_of
+
+    rows, kind = documented(), ""
+    coupons = {(first, second): third for first, second, third, *_ in lines_of("values.txt")}
+    yield from ("FORMAT.md has no row of the type %s" % it for it in ROWS.values() if it not in rows)
+    for it, (example, *_) in rows.items():
+        found = re.fullmatch("`(.*)`: `([0-9a-f]+)`", example)
+        if not found or coupons.get((it, found[1])) != "%08x" % coupon_of(bytes.fromhex(found[2])):
+            yield "FORMAT.md: %s is no value of values.txt with these bytes" % example
+    for first, second, third, *why in lines_of("values.txt"):
+        kind = first or kind
+        for name, cell in zip(("python", "postgresql", "sqlite"), rows.get(kind, [""])[1:]):
+            if not first and name in second.split(",") and not (why[0] in cell or third.startswith("rejected: ") and third[10:] in cell):
+                yield "FORMAT.md: the cell of %s in the row of the type %s doesn't say: %s" % (name, kind, why[0])
+
+
 def lives():
     """Returns the names of life.txt, with the bindings that don't have each, and why."""
     found = {}
@@ -144,7 +176,7 @@ def check():
     calls = {first for first, *_ in all_lines if first not in ("", "!")}
     found = ["%s: %s" % ("\t".join(it), fault) for it in all_lines for fault in faults_of(it, calls)]
     found += ["no test of %s runs the table" % binding for binding in BINDINGS if not runs_it(binding)]
-    found += faults_of_lives()
+    found += [*faults_of_lives(), *faults_of_format()]
     count = len(all_lines) + len(BINDINGS) * (1 + len(lives()))
     for fault in found:
         print(fault)

@@ -20,7 +20,7 @@ const VALUES = {
 };
 
 /** Why a call throws. Of one image the reason is enough. */
-const rejected = (why, isImage) => `rejected: ${isImage ? why.reason : `${why.reason}: ${why.message}`}`;
+const rejected = (why, isImage) => `rejected: ${isImage ? why.reason : why.message} ${isImage || why.reason === undefined ? "" : why.reason}`.trimEnd();
 
 /** The coupon that a sketch keeps of a value, or what became of it. */
 function kept(value) {
