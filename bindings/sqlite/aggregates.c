@@ -78,11 +78,37 @@ static uint64_t word_of_real(double real)
     return word;
 }
 
+/* Returns whether a text has half a surrogate pair, as char(55296) makes: ED and a byte from A0 to BF. UTF-8 has no such bytes. */
+static bool has_half_pair(hll_bytes text)
+{
+    const uint8_t *at = text.bytes, *end = at + text.len;
+
+    while ((at = memchr(at, 0xed, (size_t)(end - at))) != NULL) {
+        at++;
+        if (at < end && *at >= 0xa0 && *at <= 0xbf)
+            return true;
+    }
+    return false;
+}
+
+/* Returns the bytes of a text. */
+static bool text_in(sqlite3_context *context, sqlite3_value *value, hll_bytes *bytes)
+{
+    if (!bytes_in(context, value, bytes))
+        return false;
+    if (!has_half_pair(*bytes))
+        return true;
+    sqlite3_result_error(context, "a TEXT has half a surrogate pair, so it is no UTF-8: leave it out, or count CAST(value AS BLOB)", -1);
+    return false;
+}
+
 /* The bytes that are hashed for a value of this type (docs/FORMAT.md, "What values are hashed as"). Numbers are
  * little-endian. */
 static bool hashed_in(sqlite3_context *context, sqlite3_value *value, int type, uint8_t *eight, hll_bytes *bytes)
 {
-    if (type == SQLITE_TEXT || type == SQLITE_BLOB)
+    if (type == SQLITE_TEXT)
+        return text_in(context, value, bytes);
+    if (type == SQLITE_BLOB)
         return bytes_in(context, value, bytes);
     put_eight(eight, type == SQLITE_INTEGER ? (uint64_t)sqlite3_value_int64(value) : word_of_real(sqlite3_value_double(value)));
     bytes->bytes = eight;

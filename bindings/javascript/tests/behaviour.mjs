@@ -11,6 +11,7 @@ const numberOf = (text) => Number(text.replace("inf", "Infinity"));
 // The forms in which a program has a value of each type.
 const VALUES = {
   text: (digits) => [new TextDecoder("utf-8", { ignoreBOM: true }).decode(bytesOf(digits))],
+  surrogate: (digits) => [String.fromCharCode(parseInt(digits, 16))],
   bytes: (digits) => [bytesOf(digits), bytesOf(digits).buffer],
   integer: (text) => (Number.isSafeInteger(Number(text)) ? [Number(text), BigInt(text)] : [BigInt(text)]),
   real: (text) => (Number.isSafeInteger(numberOf(text)) ? [new Real(numberOf(text))] : [numberOf(text), new Real(numberOf(text))]),

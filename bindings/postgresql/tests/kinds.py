@@ -78,6 +78,7 @@ def array_of(kind, texts):
 # A value of tests/behaviour as SQL, by its type.
 SQL = {
     "text": lambda it: "convert_from('\\x%s'::bytea, 'UTF8')" % it.hex(), "bytes": lambda it: "'\\x%s'::bytea" % it.hex(), "integer": str,
+    "surrogate": lambda it: "chr(%d)" % int(it, 16),
     "real": "'%s'::float8".__mod__, "single": "'%s'::float4".__mod__, "boolean": "%s::boolean".__mod__, "date": "date '%s'".__mod__,
     "time": "timestamptz '%s+00'".__mod__, "uuid": lambda it: "'%s'::uuid" % it.hex(), "decimal": "'%s'::numeric".__mod__,
     "list": "'[%s]'::jsonb".__mod__, "missing": lambda it: "NULL::text",

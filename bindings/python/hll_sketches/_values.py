@@ -101,8 +101,9 @@ def _numbered(error: Exception, values: List[Any], start: int) -> Exception:
         except (TypeError, OverflowError) as found:
             if str(found) == str(error):
                 return type(found)(f"values[{number}]: {found}")
-        except UnicodeError:
-            pass
+        except UnicodeEncodeError as found:
+            found.reason += f" (values[{number}])"
+            return found
     return error
 
 
@@ -205,7 +206,7 @@ def _batches(values: Iterable[Value], size: int, missing: Optional[Missing]) -> 
         some = batch if missing is None else missing.without(batch, start)
         try:
             made = joined(some)
-        except (TypeError, OverflowError) as error:
+        except (TypeError, OverflowError, UnicodeEncodeError) as error:
             raise _numbered(error, batch, start) from None
         start += len(batch)
         yield made

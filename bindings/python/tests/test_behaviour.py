@@ -20,6 +20,7 @@ from plain_hash import coupon_of
 
 MAKE = {
     "text": bytes.decode,
+    "surrogate": lambda written: chr(int(written, 16)),
     "bytes": bytes,
     "integer": int,
     "real": float,
@@ -73,7 +74,7 @@ class BehaviourTest(CommandTest):
     def of_value(self, value):
         one = made_by(lambda: kept(after("update", value).to_bytes()), lambda: "%08x" % coupon(value))
         many = one if value != value else made_by(lambda: kept(after("update_many", [value, value]).to_bytes()))    # NaN is missing there
-        return one if many in (one, one.replace("rejected: ", "rejected: values[0]: ")) or value is None else one + " or " + many
+        return one if many in (one, one.replace("rejected: ", "rejected: values[0]: "), one + " (values[0])") or value is None else one + " or " + many
 
     def of_image(self, image):
         """By each way in that takes one whole image."""

@@ -38,7 +38,9 @@ def of_value(kind, written):
     arguments = {"text": bytes.decode, "bytes": bytes, "real": float}.get(kind)
     if arguments:
         return kept(ask("SELECT hll_image_add_agg(?)", arguments(written)))
-    return kept(ask("SELECT hll_image_add_agg(%s)" % {"missing": "NULL"}.get(kind, written)))
+    sql = "SELECT hll_image_add_agg(%s)" % {"missing": "NULL", "surrogate": "char(0x%s)" % written}.get(kind, written)
+    said = said_by(sql)
+    return "rejected: " + said if said else kept(ask(sql))
 
 
 def own_width(image):
@@ -61,7 +63,7 @@ def behaviour():
     """The cases of tests/behaviour, which every binding runs."""
     for case in cases("sqlite"):
         call, given, _ = case
-        answer = of_value(call, given) if call in ("text", "bytes", "integer", "real", "boolean", "missing") else of_call(call, given)
+        answer = of_value(call, given) if call in ("text", "bytes", "surrogate", "integer", "real", "boolean", "missing") else of_call(call, given)
         check(printed(case), is_right(case, answer), answer)
 
 
