@@ -170,6 +170,11 @@ class Registers:
         with self._lock:
             return _library.image_of(self._place, checked_width(width))
 
+    @property
+    def base64(self) -> str:
+        """The image of the registers in base64, as ``Sketch.base64``."""
+        return self.to_sketch().to_base64()
+
     def to_sketch(self, width: int = 8) -> Sketch:
         """Return the sketch with these registers."""
         return Sketch.from_bytes(self.to_bytes(width))

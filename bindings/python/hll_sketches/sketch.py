@@ -226,11 +226,18 @@ class Sketch:
         return cls.from_bytes(data)
 
     def to_base64(self) -> str:
-        """Return the image in base64, for JSON and other texts.
-
-        ``to_json`` of pandas takes objects apart, and loses the image: give it a column of these texts.
-        """
+        """Return the image in base64, for JSON and other texts."""
         return b64encode(self.to_bytes()).decode()
+
+    @property
+    def base64(self) -> str:
+        """The text of ``to_base64``.
+
+        ``to_json`` of pandas writes an object with the properties of a sketch. This property makes the
+        image one of them: ``Sketch.from_base64(read["base64"])`` reads it. For one text instead of an
+        object, pass ``default_handler=Sketch.to_base64``.
+        """
+        return self.to_base64()
 
     @classmethod
     def read(cls: Type[_S], path: Union[str, "os.PathLike[str]"]) -> _S:

@@ -187,6 +187,11 @@ class SketchUnion:
         """Return the image of the union so far."""
         return self.sketch().to_bytes()
 
+    @property
+    def base64(self) -> str:
+        """The image of the union so far in base64, as ``Sketch.base64``."""
+        return self.sketch().to_base64()
+
     def sketch(self) -> Sketch:
         """Return the sketch of the union so far.
 

@@ -1,6 +1,7 @@
 # SPDX-License-Identifier: Apache-2.0
 """Values that lie in memory count as they do one by one, whatever shows them."""
 import ctypes
+import json
 import math
 import pickle
 import random
@@ -629,6 +630,20 @@ class PandasUnionTest(unittest.TestCase):
         self.assertEqual(grouped.apply(union_of, lg_max_k=10).loc[2].lg_k, 10)
 
 
+class PandasJsonTest(unittest.TestCase):
+    """``to_json`` loses no image: it is among the properties that pandas writes, or the one text of a handler."""
+
+    def test_to_json(self):
+        sketch, union, registers = Sketch(), SketchUnion(12), Registers(12)
+        for made in (sketch, union, registers):
+            getattr(made, "update_values" if made is union else "update_many")(["ann", "bob"])
+        frame = pandas.DataFrame({"day": list("abc"), "made": [sketch, union, registers]})
+        for made, read in zip(frame["made"], json.loads(frame.to_json())["made"].values()):
+            self.assertEqual(Sketch.from_base64(read["base64"]).to_bytes(), made.to_bytes())
+        found = frame[:1].to_json(orient="records", default_handler=Sketch.to_base64)
+        self.assertEqual(json.loads(found), [{"day": "a", "made": "AgEHDAMIAgj4EWAEvyBkHA=="}])
+
+
 class OtherPythonTest(unittest.TestCase):
     def test_numpy(self):
         """The tests of NumPy, in the system's Python, which may have it where this one hasn't."""
@@ -644,7 +659,7 @@ if numpy is None:
 else:
     del OtherPythonTest
 if pandas is None:
-    del PandasTest, PandasPlaceTest, PandasUnionTest
+    del PandasTest, PandasPlaceTest, PandasUnionTest, PandasJsonTest
 if pyarrow is None or pandas is None:
     del ArrowTest
 
