@@ -56,6 +56,14 @@ def recipes(server):
         shards(server)
 
 
+def questions(server):
+    """The blocks of docs/QUESTIONS.md print what the page shows."""
+    blocks = "".join(re.findall(r"^```sql\n(.*?)^```$", PAGE.with_name("QUESTIONS.md").read_text(), re.S | re.M))
+    server.ask("CREATE DATABASE questions")
+    server.ask("CREATE EXTENSION hll_sketches", "questions")
+    equal("questions print what they show", server.run(blocks, "questions").split("\n"), re.findall(r"^--> (.*)$", blocks, re.M))
+
+
 def run_python(folder, *marks):
     """Runs the blocks in Python of the page that have one of these texts."""
     blocks = re.findall(r"^```python\n(.*?)^```$", PAGE.read_text(), re.S | re.M)
