@@ -143,6 +143,7 @@ inline bool is_small(const void *image, size_t size, unsigned lg_k = 12, size_t 
 namespace detail {
 
 constexpr unsigned default_lg_k = 12;
+constexpr size_t most_before = SIZE_MAX / 2 - HLL_IMAGE_MAX(21); // so the room before an image and the image are a size
 constexpr size_t batch = 256; // values that are hashed before their coupons are added
 
 inline unsigned checked_lg_k(unsigned lg_k)
@@ -320,6 +321,9 @@ class state {
     /// Returns the image after `before` bytes, which are 0.
     std::vector<uint8_t> image(width given, size_t before = 0) const
     {
+        if (before > most_before)
+            throw std::invalid_argument("the room before an image is " + std::to_string(before) +
+                                        " bytes; it must be at most " + std::to_string(most_before));
         const hll_state_summary said = summary();
         // enough, unless 4-bit registers have many exceptions
         size_t size = std::min<size_t>(static_cast<size_t>(said.size), HLL_IMAGE_ROOM(said.lg_k, 8));
@@ -696,7 +700,8 @@ class sketch : public detail::counter {
     typename std::enable_if<std::is_arithmetic<Number>::value, std::vector<uint8_t>>::type
         serialize(Number) const = delete; // serialize(hll::width::hll_8) or serialize_after(8)?
 
-    /// Returns the image after `room` bytes, which are 0, for a header of the caller's.
+    /// Returns the image after `room` bytes, which are 0, for a header of the caller's. Throws std::invalid_argument if the
+    /// room and an image would be no size.
     std::vector<uint8_t> serialize_after(size_t room) const { return serialize_after(room, width_); }
     std::vector<uint8_t> serialize_after(size_t room, hll::width width) const { return state_.image(width, room); }
 

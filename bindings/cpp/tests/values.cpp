@@ -116,6 +116,8 @@ static void test_images()
             }
         }
     CHECK(throws<std::invalid_argument>([] { sketch::max_serialized_size(22, hll::width::hll_8); }, "4 to 21"));
+    for (const size_t room : {SIZE_MAX, SIZE_MAX - 7, SIZE_MAX / 2}) // with the size of the image that is beyond all sizes
+        CHECK(throws<std::invalid_argument>([=] { sketch(12).serialize_after(room); }, std::to_string(room).c_str()));
 }
 
 // The updatable form of an image, which other programs write: all buckets, and the coupons in the first of them.
