@@ -70,13 +70,31 @@ const isShared = (data) => typeof SharedArrayBuffer === "function" && data insta
 const isMissing = (value) => value === null || value === undefined;
 const rejected = (message) => new HllError(ARGUMENT, { message });
 
-/** Returns what a caller passes as bytes as a Uint8Array over the same bytes. */
+// The properties of views and buffers as JavaScript itself has them. An object of a program's own class can say another length, and a
+// length that the program computes can change the buffer.
+const propertyOf = (prototype, name) => {
+  const { get } = Object.getOwnPropertyDescriptor(prototype, name);
+  return (it) => get.call(it);
+};
+const TypedArray = Object.getPrototypeOf(Uint8Array);
+const ARRAY = Object.fromEntries(["buffer", "byteOffset", "byteLength", "length"].map((name) => [name, propertyOf(TypedArray.prototype, name)]));
+const DATA_VIEW = Object.fromEntries(["buffer", "byteOffset", "byteLength"].map((name) => [name, propertyOf(DataView.prototype, name)]));
+const kindOf = propertyOf(TypedArray.prototype, Symbol.toStringTag);
+const sizeOfBuffer = propertyOf(ArrayBuffer.prototype, "byteLength");
+const sizeOfShared = typeof SharedArrayBuffer === "function" ? propertyOf(SharedArrayBuffer.prototype, "byteLength") : null;
+
+/** Returns what a caller passes as bytes as a Uint8Array over the same bytes, whose length doesn't change if another thread lets the
+ * buffer grow. */
 function bytesOf(data) {
-  if (data instanceof Uint8Array) return data;
-  if (data instanceof ArrayBuffer || isShared(data)) return new Uint8Array(data);
-  if (ArrayBuffer.isView(data)) return new Uint8Array(data.buffer, data.byteOffset, data.byteLength);
-  throw new TypeError("an image is a Uint8Array, an ArrayBuffer or a view of one");
+  if (data instanceof ArrayBuffer) return new Uint8Array(data, 0, sizeOfBuffer(data));
+  if (isShared(data)) return new Uint8Array(data, 0, sizeOfShared(data));
+  if (!ArrayBuffer.isView(data)) throw new TypeError("an image is a Uint8Array, an ArrayBuffer or a view of one");
+  const read = kindOf(data) === undefined ? DATA_VIEW : ARRAY;
+  return new Uint8Array(read.buffer(data), read.byteOffset(data), read.byteLength(data));
 }
+
+/** Returns a typed array over the same numbers, whose length doesn't change. */
+const numbersOf = (array) => new globalThis[kindOf(array)](ARRAY.buffer(array), ARRAY.byteOffset(array), ARRAY.length(array));
 
 /** Returns bytes as base64. */
 function base64Of(bytes) {
@@ -264,7 +282,7 @@ export function make(exports) {
    * before it are passed on. */
   function couponsOf(values, take) {
     if (typeof values === "string") throw new TypeError("addMany takes many values; for one string call add");
-    if (ArrayBuffer.isView(values) && !(values instanceof DataView)) return couponsOfNumbers(values, take);
+    if (kindOf(values) !== undefined) return couponsOfNumbers(numbersOf(values), take);
     // memory of its own, since an iterator may use other sketches, or this one, between two values
     const batch = allocated(VALUES_ROOM + 8 * MOST_VALUES + 8);
     const offsets = batch + VALUES_ROOM, coupons = offsets + 4 * MOST_VALUES + 4;
@@ -315,7 +333,7 @@ export function make(exports) {
   }
 
   function couponsOfNumbers(values, take) {
-    const kind = values[Symbol.toStringTag], isReal = kind.startsWith("Float"), isBig = kind.startsWith("Big"), isSigned = !/^(Big)?Uint/.test(kind);
+    const kind = kindOf(values), isReal = kind.startsWith("Float"), isBig = kind.startsWith("Big"), isSigned = !/^(Big)?Uint/.test(kind);
     for (let from = 0; from < values.length; from += MOST_VALUES) {
       const n = Math.min(MOST_VALUES, values.length - from);
       fresh();
@@ -559,13 +577,13 @@ export function make(exports) {
 
     /** Reads an image. */
     static fromBytes(data) {
-      const bytes = bytesOf(data), made = new Sketch(unmade);
+      const bytes = bytesOf(data).slice(), made = new Sketch(unmade);
       over(bytes, (at, len) => {
         ensure(wasm.hll_image_check(at, len));
         checkEnd(at, len);
       });
       const { size, width } = headOf(bytes);
-      made.#image = bytes.slice(0, size);
+      made.#image = bytes.subarray(0, size);
       made.#width = width;
       return made;
     }
@@ -732,21 +750,23 @@ export function make(exports) {
   /** Registers in a typed array of the program's, one byte for each. */
   class Registers extends Estimator {
     #array;
+    #bytes; // the same bytes, of a length that doesn't change
 
     constructor(of = 12) {
       super();
       this.#array = typeof of === "number" ? new Uint8Array(1 << checkedLgK(of)) : of;
       if (!(this.#array instanceof Uint8Array)) throw new TypeError("registers are an lg_k or a Uint8Array");
-      const count = this.#array.length;
+      this.#bytes = bytesOf(this.#array);
+      const count = this.#bytes.length;
       if (count < 16 || count > 1 << 21 || count & (count - 1)) throw rejected(`The registers are ${count}; they must be a power of two from 2^4 to 2^21.`);
     }
 
     /** Makes a call over a copy of the registers, which takes their place if it succeeds. */
     #changed(call) {
-      over(this.#array, (at, count) => {
+      over(this.#bytes, (at, count) => {
         call(at, count);
         fresh();
-        this.#array.set(u8.subarray(at, at + count));
+        this.#bytes.set(u8.subarray(at, at + count));
       });
       return this;
     }
@@ -777,7 +797,7 @@ export function make(exports) {
         fresh();
         return new HllError(COARSER, { lgKs: [this.lgK, u8[REPORT]], message: `These registers have lg_k ${this.lgK}, and what is to be merged has ${u8[REPORT]}. Fold these first.` });
       };
-      const isArray = other instanceof Registers, bytes = isArray ? other.array : imageOf(other);
+      const isArray = other instanceof Registers, bytes = isArray ? other.#bytes : imageOf(other);
       return this.#changed((at, count) => over(bytes, (from, len) => {
         const status = isArray ? wasm.hll_registers_merge_registers(at, count, from, len, REPORT) : wasm.hll_registers_merge(at, count, from, len, REPORT);
         if (status === COARSER) throw coarser();
@@ -788,7 +808,7 @@ export function make(exports) {
     /** Returns new registers, folded to a smaller lg_k. */
     fold(lgK) {
       checkedLgK(lgK);
-      return over(this.#array, (at, count) => {
+      return over(this.#bytes, (at, count) => {
         ensure(wasm.hll_registers_fold(at, count, lgK));
         return new Registers(u8.slice(at, at + (1 << lgK)));
       });
@@ -796,7 +816,7 @@ export function make(exports) {
 
     /** Returns how many registers have each value from 0 to 63. */
     histogram() {
-      return over(this.#array, (at, count) => {
+      return over(this.#bytes, (at, count) => {
         ensure(wasm.hll_registers_histogram(at, count, REPORT));
         return histogram();
       });
@@ -804,7 +824,7 @@ export function make(exports) {
 
     /** Returns the estimate with its error and bounds. */
     estimation() {
-      return over(this.#array, (at, count) => {
+      return over(this.#bytes, (at, count) => {
         ensure(wasm.hll_registers_estimate(at, count, REPORT));
         return estimation();
       });
@@ -813,7 +833,7 @@ export function make(exports) {
     /** Returns an image of the registers. */
     toBytes(width = 8) {
       checkedWidth(width);
-      return over(this.#array, (at, count) => written((out, room, size) => wasm.hll_registers_image(at, count, width, out, room, size), 40 + 2 * count));
+      return over(this.#bytes, (at, count) => written((out, room, size) => wasm.hll_registers_image(at, count, width, out, room, size), 40 + 2 * count));
     }
 
     /** The registers: the array that was passed, or the one that was made. */
@@ -822,7 +842,7 @@ export function make(exports) {
     }
 
     get lgK() {
-      return 31 - Math.clz32(this.#array.length);
+      return 31 - Math.clz32(this.#bytes.length);
     }
   }
 

@@ -200,6 +200,34 @@ test("memory comes back when sketches are collected", { skip: typeof gc !== "fun
   assert.equal(instance.exports.in_use(), before);
 });
 
+test("lengths that lie, or that change while they are read", () => {
+  const others = Array.from({ length: 400 }, (_, i) => new Sketch().addMany([i, "a", "b"])), images = others.map((it) => hex(it.toBytes()));
+  const image = new Sketch().addMany(["ann", "bob"]).toBytes(), real = Float64Array.of(1.5, 2.5), wanted = hex(image);
+  for (const lie of [0, 3, 2 ** 31, -1, NaN]) {
+    const lying = (array) => Object.defineProperties(array, Object.fromEntries(["length", "byteLength"].map((name) => [name, { get: () => lie }])));
+    assert.equal(hex(Sketch.fromBytes(lying(image.slice())).toBytes()), wanted);
+    assert.equal(hex(new Union().add(lying(image.slice())).toBytes()), wanted);
+    assert.equal(hex(new Sketch().add(lying(new TextEncoder().encode("ann"))).add("bob").toBytes()), wanted);
+    assert.equal(new Sketch().addMany(lying(real.slice())).estimate(), new Sketch().addMany(real).estimate());
+    assert.equal(new Registers(lying(new Uint8Array(16).fill(1))).lgK, 4);
+    assert.equal(fault(lying(new DataView(image.buffer.slice()))), null);
+  }
+  // Each look at the length lets the buffer grow, as another thread may.
+  const shared = (bytes) => {
+    const buffer = new SharedArrayBuffer(bytes.length, { maxByteLength: 1 << 20 }), array = new Uint8Array(buffer);
+    array.set(bytes);
+    const grow = () => {
+      const { byteLength } = buffer;
+      if (byteLength < 1 << 20) buffer.grow(1 << 20);
+      return byteLength;
+    };
+    return Object.defineProperties(array, { length: { get: grow }, byteLength: { get: grow } });
+  };
+  for (const call of [(it) => Sketch.fromBytes(it), (it) => new Union().add(it), (it) => new Sketch().add(it), (it) => new Sketch().addMany([it, "c"]), fault])
+    call(shared(image));
+  assert.deepEqual(others.map((it) => hex(it.toBytes())), images);
+});
+
 test("registers in an array of the program's", () => {
   const array = new Uint8Array(4096), registers = new Registers(array), values = Array.from({ length: 9000 }, (_, i) => `v${i}`);
   assert.equal(registers.array, array);
