@@ -171,10 +171,38 @@ export function make(exports) {
   }
 
   function allocated(size) {
-    const at = size < 0x7fffffff ? wasm.alloc(size) >>> 0 : 0;
+    const at = tried(() => (size < 0x7fffffff ? wasm.alloc(size) >>> 0 : 0));
     if (at === 0) throw new HllError(MEMORY);
     fresh();
     return at;
+  }
+
+  // The counters of sketches that were collected. They are freed some at a time, so thousands of them don't hold up the program.
+  const SLICE = 256, collected = [];
+  let isFreeing = false;
+
+  function freeSome(n) {
+    for (const at of collected.splice(-n)) if (wasm.trap === null) wasm.counter_free(at);
+  }
+
+  function freeInSlices() {
+    freeSome(SLICE);
+    isFreeing = collected.length > 0;
+    if (isFreeing) setTimeout(freeInSlices, 0).unref?.();
+  }
+
+  const owners = new FinalizationRegistry((at) => {
+    collected.push(at);
+    if (!isFreeing) setTimeout(freeInSlices, 0).unref?.();
+    isFreeing = true;
+  });
+
+  /** Returns an address, or 0 if there is no memory even after all that was collected is freed. */
+  function tried(allocate) {
+    const at = allocate();
+    if (at !== 0 || collected.length === 0) return at;
+    freeSome(collected.length);
+    return allocate();
   }
 
   // Memory that every call uses: a size and the number of an image, what a call reports, and a batch of values with its coupons.
@@ -187,34 +215,42 @@ export function make(exports) {
     if (status !== OK) throw new HllError(status, more);
   }
 
+  // Room for what a call reads and writes, so small calls allocate nothing here. A call within another one gets what that one left.
+  const SCRATCH_ROOM = 1 << 18, SCRATCH = allocated(SCRATCH_ROOM);
+  let scratched = 0;
+
+  /** Makes a call with the address of memory, which is free again after it. */
+  function borrowed(size, call) {
+    const isLarge = size > SCRATCH_ROOM - scratched, rounded = isLarge ? 0 : (size + 15) & ~15;
+    const at = isLarge ? allocated(size) : SCRATCH + scratched;
+    scratched += rounded;
+    fresh();
+    try {
+      return call(at);
+    } finally {
+      scratched -= rounded;
+      if (isLarge && wasm.trap === null) wasm.free(at);
+    }
+  }
+
   /** Makes a call over a copy of bytes in the module's memory. */
   function over(bytes, call) {
-    const at = allocated(bytes.length || 1);
-    try {
+    return borrowed(bytes.length, (at) => {
       u8.set(bytes, at);
       return call(at, bytes.length);
-    } finally {
-      if (wasm.trap === null) wasm.free(at);
-    }
+    });
   }
 
   /** Returns what a call writes into a buffer, which grows to the size that the call reports. */
   function written(call, room = 4136) {
-    for (;;) {
-      const out = allocated(room);
-      try {
-        const status = call(out, room, SIZE);
-        fresh();
-        if (status === BUFFER && u32[SIZE >> 2] > room) {
-          room = u32[SIZE >> 2];
-          continue;
-        }
-        ensure(status);
-        return u8.slice(out, out + u32[SIZE >> 2]);
-      } finally {
-        if (wasm.trap === null) wasm.free(out);
-      }
-    }
+    const found = borrowed(room, (out) => {
+      const status = call(out, room, SIZE);
+      fresh();
+      if (status === BUFFER && u32[SIZE >> 2] > room) return u32[SIZE >> 2];
+      ensure(status);
+      return u8.slice(out, out + u32[SIZE >> 2]);
+    });
+    return typeof found === "number" ? written(call, found) : found;
   }
 
   const realAt = (at) => view.getFloat64(REPORT + 8 * at, true);
@@ -284,7 +320,10 @@ export function make(exports) {
     if (typeof values === "string") throw new TypeError("addMany takes many values; for one string call add");
     if (kindOf(values) !== undefined) return couponsOfNumbers(numbersOf(values), take);
     // memory of its own, since an iterator may use other sketches, or this one, between two values
-    const batch = allocated(VALUES_ROOM + 8 * MOST_VALUES + 8);
+    borrowed(VALUES_ROOM + 8 * MOST_VALUES + 8, (batch) => couponsIn(batch, values, take));
+  }
+
+  function couponsIn(batch, values, take) {
     const offsets = batch + VALUES_ROOM, coupons = offsets + 4 * MOST_VALUES + 4;
     let n = 0, end = 0, number = -1;
     u32[offsets >> 2] = 0;
@@ -322,13 +361,7 @@ export function make(exports) {
         u32[(offsets >> 2) + ++n] = end;
       }
     } finally {
-      if (wasm.trap === null) {
-        try {
-          flush();
-        } finally {
-          if (wasm.trap === null) wasm.free(batch);
-        }
-      }
+      if (wasm.trap === null) flush();
     }
   }
 
@@ -354,13 +387,9 @@ export function make(exports) {
 
   // ---- counters: sketches in the module's memory that grow by themselves (bindings/c/hll.h)
 
-  const owners = new FinalizationRegistry((at) => {
-    if (wasm.trap === null) wasm.counter_free(at);
-  });
-
   class Counter {
     constructor(lgK, lgMaxK) {
-      this.at = wasm.counter_new(lgK, lgMaxK) >>> 0;
+      this.at = tried(() => wasm.counter_new(lgK, lgMaxK) >>> 0);
       if (this.at === 0) throw new HllError(MEMORY);
       owners.register(this, this.at, this);
     }

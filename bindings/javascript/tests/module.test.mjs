@@ -228,6 +228,34 @@ test("lengths that lie, or that change while they are read", () => {
   assert.deepEqual(others.map((it) => hex(it.toBytes())), images);
 });
 
+test("small calls allocate nothing here", async () => {
+  const { instance } = await WebAssembly.instantiate(wasm);
+  let count = 0;
+  const own = make({ ...instance.exports, alloc: (size) => { count++; return instance.exports.alloc(size); } });
+  const image = new own.Sketch().addMany(Int32Array.from({ length: 9000 }, (_, i) => i)).toBytes(), registers = new own.Registers(), before = count;
+  for (const call of [(s) => s.add("ann"), (s) => s.addMany(["a", 1, 2.5, new Uint8Array(3)]), (s) => s.toBytes(), (s) => s.merge(image), (s) => s.estimate(), (s) => s.add(new Uint8Array(9000)), (s) => s.addMany([new Uint8Array(9000)])])
+    call(new own.Sketch());
+  for (const call of [own.fault, own.sizeOf, own.infoOf, own.headOf, own.histogramOf, own.hipOf, (it) => own.agree(it, it), own.Sketch.fromBytes, (it) => registers.merge(it), () => registers.toBytes()]) call(image);
+  assert.equal(count, before);
+});
+
+test("sketches that are collected are freed some at a time", { skip: typeof gc !== "function" }, async () => {
+  const { instance } = await WebAssembly.instantiate(wasm), turn = () => new Promise((done) => setImmediate(done));
+  let count = 0, most = 0, all = 0;
+  const own = make({ ...instance.exports, counter_free: (at) => { count++; instance.exports.counter_free(at); } });
+  (() => { for (let i = 0; i < 3000; i++) new own.Sketch(); })();
+  for (let i = 0; i < 200 && all < 2900; i++) {
+    gc();
+    for (let j = 0; j < 10; j++) {
+      await turn();
+      most = Math.max(most, count);
+      all += count;
+      count = 0;
+    }
+  }
+  assert.ok(all >= 2900 && most <= 512, `${all} were freed, ${most} at once`);
+});
+
 test("registers in an array of the program's", () => {
   const array = new Uint8Array(4096), registers = new Registers(array), values = Array.from({ length: 9000 }, (_, i) => `v${i}`);
   assert.equal(registers.array, array);
@@ -373,10 +401,11 @@ test("an allocation that fails leaves a sketch as it was", async () => {
     }
   }
   assert.ok(failures > 60, `${failures}`);
-  const registers = new own.Registers(12).add("a"), before = registers.array.slice(), used = inUse();
+  const registers = new own.Registers(19).add("a"), before = registers.array.slice(), used = inUse();
+  const large = new Sketch(19).addMany(Int32Array.from({ length: 200000 }, (_, i) => i)).toBytes();
   for (let n = 1; n < 3; n++) {
     failAt(n);
-    assert.throws(() => registers.merge(image), rejects("memory"));
+    assert.throws(() => registers.merge(large), rejects("memory"));
     failAt(0);
     assert.deepEqual(registers.array, before);
     assert.equal(inUse(), used);
