@@ -316,10 +316,26 @@ def refused_texts(server):
     found = server.ask("""SELECT round(# hyperloglog_agg(name::text)), round(# hyperloglog_agg(lower(name))), round(# hyperloglog_agg(lower(under) COLLATE "C")),
         round(# hyperloglog_agg(short)) FROM people""")
     equal("counts of people", found, "3|2|2|3")
+    folded_texts(server)
     for workers in (0, 3):
         said = server.run(settings(workers) + "SELECT hyperloglog_agg(name) FROM people;")
         refused("a citext at %d workers" % workers, said, DATATYPE, "values of type citext")
     computed_below(server)
+
+
+def folded_texts(server):
+    """A parameter of the type citext is rejected in a generic plan. In a custom plan it is a text before the check sees it, and so is a constant,
+    also as the argument of a function that PostgreSQL puts into the query: README.md says so."""
+    prepared = "PREPARE p(citext) AS SELECT round(# hyperloglog_agg($1)) FROM generate_series(1, 2); SET plan_cache_mode = force_%s_plan; EXECUTE p('Ann');"
+    refused("a parameter in a generic plan", server.run(prepared % "generic"), DATATYPE, "values of type citext cannot be counted")
+    refused("hll_add of a parameter in a generic plan", server.run("PREPARE p(citext) AS SELECT hll_add(hyperloglog_empty(), $1); "
+                                                                   "SET plan_cache_mode = force_generic_plan; EXECUTE p('Ann');"), DATATYPE, "values of type citext")
+    equal("a parameter in a custom plan", server.run(prepared % "custom"), "1")
+    server.ask("CREATE FUNCTION counted(name citext) RETURNS hyperloglog LANGUAGE sql STABLE AS 'SELECT hll_add(hyperloglog_empty(), name)'")
+    refused("a row in an inlined function", server.run("SELECT counted(name) FROM people;"), DATATYPE, "values of type citext")
+    for value in "'Ann'::citext", "lower('Ann'::citext)::citext":
+        equal("a constant: " + value, server.run("SELECT round(# hyperloglog_agg(%s));" % value), "1")
+    equal("a constant in an inlined function", server.run("SELECT round(# counted('Ann'));"), "1")
 
 
 # From PostgreSQL 16 on, the plan sorts rows for an aggregate. Then a node below the aggregate computes its values, and the
