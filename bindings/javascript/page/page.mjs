@@ -2,7 +2,7 @@
 
 const $ = (id) => document.getElementById(id);
 const MOST_BYTES = 64 << 20;
-// Images of this size and more are read by a Worker.
+// Images of this many bytes together are read by a Worker, also if each of them is small.
 const LARGE = 1 << 20;
 const whole = new Intl.NumberFormat("en", { maximumFractionDigits: 0 });
 const exact = (x) => (Number.isFinite(x) ? whole.format(x) : "infinite");
@@ -42,8 +42,15 @@ function ofBase64(text) {
   }
 }
 
-/** Returns whether bytes look like an image: small ones are read, and of large ones only the first bytes, as reading takes time. */
-const isImage = (bytes) => (bytes.length < LARGE ? hll.fault(bytes) === null : bytes[1] === 1 && bytes[2] === 7);
+/** Returns whether bytes are an image: small ones are read, and of others only the head, as reading can take a second. */
+function isImage(bytes) {
+  if (hll.isSmall(bytes)) return hll.fault(bytes) === null;
+  const { size, fault } = hll.headOf(bytes);
+  return fault === null && size === bytes.length;
+}
+
+/** Returns a name in which letters are shown that would be invisible, or change the order or the lines of a text. */
+const shownName = (name) => name.replace(/[\p{Cc}\p{Cf}\p{Zl}\p{Zp}]/gu, (letter) => `\\u{${letter.codePointAt(0).toString(16)}}`);
 
 /** Returns the bytes of a string: of hex or base64, whichever is an image, else hex if both can be read. */
 function ofText(text) {
@@ -59,10 +66,18 @@ function ofLines(text) {
     const all = ofText(text.replace(/\s+/g, ""));
     if (all !== null && isImage(all)) return [{ name: "pasted text", bytes: all }];
   }
+  const likely = found.filter((it) => it !== null && (it[1] === 1 || it[2] === 7)).length;
+  if (lines.length > MOST_BAD_LINES && likely < lines.length / 2) {
+    const message = `This is no list of images: of its ${exact(lines.length)} lines ${exact(likely)} look like one.`;
+    return [{ name: "pasted text", bytes: null, text: lines.slice(0, 5).join("\n"), study: { reason: "text", message } }];
+  }
   return found.map((bytes, i) => ({ name: lines.length > 1 ? `line ${i + 1}` : "pasted text", bytes, text: lines[i] }));
 }
 
 // ---- jobs, in the page or in a Worker
+
+// A text of more lines, of which most are no image, gets one card.
+const MOST_BAD_LINES = 20;
 
 const workerText = () => {
   const above = $("script").textContent;
@@ -70,14 +85,28 @@ const workerText = () => {
     let hll;
     onmessage = async ({ data }) => {
       if (data.compiled) hll = make((await WebAssembly.instantiate(data.compiled)).exports);
-      else postMessage(done(hll, data));
+      else done(hll, data, (found, i) => postMessage({ found, i }));
     };`;
 };
 
-/** Returns what `done` returns for a job, or the reason "time" after the seconds that the page allows. A Worker does large jobs, and is
- * ended if they take too long. `size` is the number of bytes that are read. */
-async function jobDone(job, size) {
-  if (size < LARGE) return done(hll, job);
+/** Returns whether images are quick to read, all together. */
+const areQuick = (images) => images.every((bytes) => hll.isSmall(bytes)) && images.reduce((sum, bytes) => sum + bytes.length, 0) < LARGE;
+
+/** Does a job over images, and passes on each of its n results with its number. A Worker does what isn't quick, and is ended after the
+ * seconds that the page allows: what it hasn't done is rejected with the reason "time". */
+async function doJob(job, images, n, pass) {
+  if (areQuick(images)) return done(hll, job, pass);
+  const waiting = new Set(Array.from({ length: n }, (_, i) => i));
+  const failure = await inWorker(job, ({ found, i }) => {
+    waiting.delete(i);
+    pass(found, i);
+    return waiting.size === 0;
+  });
+  for (const i of waiting) pass(failure, i);
+}
+
+/** Does a job in a Worker. `take` gets each message, and returns whether it was the last. Returns why it ended before that. */
+async function inWorker(job, take) {
   const url = URL.createObjectURL(new Blob([workerText()], { type: "text/javascript" })), seconds = Math.max(0, Number($("limit").value));
   const rejected = (reason, message) => ({ rejected: -1, reason, message });
   let worker;
@@ -85,7 +114,7 @@ async function jobDone(job, size) {
     worker = new Worker(url);
     return await new Promise((resolve) => {
       setTimeout(() => resolve(rejected("time", `Reading took longer than ${seconds} s, so it was stopped.`)), 1000 * seconds);
-      worker.onmessage = ({ data }) => resolve(data);
+      worker.onmessage = ({ data }) => take(data) && resolve(null);
       worker.onerror = (event) => resolve(rejected("worker", `Reading failed: ${event.message}`));
       worker.postMessage({ compiled });
       worker.postMessage(job);
@@ -166,7 +195,7 @@ const fieldsOf = (info) => (info.kxq0 + info.kxq1 === 0 ? "0: other libraries ca
 /** Returns what was read of an image as text, to copy into a report. */
 function reportOf({ name, bytes, study: it }) {
   const lines = [`cimbarohe ${hll.version}, the page`, `image: ${name}`];
-  if (bytes === null) lines.push(`neither hex nor base64`);
+  if (bytes === null) lines.push(`rejected: ${it.reason}. ${it.message}`);
   else {
     lines.push(`bytes: ${bytes.length}`, ...headerRows(bytes, it.reason).map(([row, value, isFault]) => `${row}: ${value}${isFault ? " (at fault)" : ""}`));
     if (it.reason) lines.push(`rejected: ${it.reason}. ${it.message} ${placeOf(it.place)}`.trim());
@@ -189,7 +218,7 @@ function cardOf(item) {
   if (it.reason) {
     return el("article", { class: "card bad" }, head,
       el("p", { class: "why" }, el("strong", {}, "Rejected: " + it.reason + ". "), it.message, " ", placeOf(it.place)),
-      bytes === null ? el("pre", {}, (item.text ?? "").slice(0, 200)) : rowsOf([["bytes", exact(bytes.length)], ...headerRows(bytes, it.reason)]),
+      bytes === null ? (item.text ? el("pre", {}, item.text.slice(0, 200)) : null) : rowsOf([["bytes", exact(bytes.length)], ...headerRows(bytes, it.reason)]),
       textsOf(null, item.name, item));
   }
   const { info } = it, isRegisters = info.stage === "registers";
@@ -239,30 +268,30 @@ function show(item) {
   item.card = card;
 }
 
-/** Reads an item, and returns a promise if a Worker does it. */
-function study(item) {
-  const { bytes } = item;
-  if (bytes === null) item.study = { reason: "text", message: "This is neither hex nor base64." };
-  else if (bytes.length > MOST_BYTES) item.study = { reason: "size", message: "This page reads images of up to 64 MiB." };
-  else if (bytes.length < LARGE) item.study = studyOf(hll, bytes);
-  else return jobDone({ study: bytes }, bytes.length).then((found) => { item.study = found; });
-  return null;
+/** Returns why an item has no image that can be read, or undefined. */
+function refused({ bytes }) {
+  if (bytes === null) return { reason: "text", message: "This is neither hex nor base64." };
+  if (bytes.length > MOST_BYTES) return { reason: "size", message: "This page reads images of up to 64 MiB." };
+  return undefined;
 }
 
 async function addAll(added) {
-  const waiting = [];
-  for (const item of added) {
-    const later = study(item);
-    items.push(item);
-    show(item);
-    if (later) waiting.push(later.then(() => { if (items.includes(item)) show(item); }));
+  for (const item of added) item.study ??= refused(item);
+  const read = added.filter((item) => !item.study), images = read.map((item) => item.bytes), isQuick = areQuick(images);
+  items.push(...added);
+  if (!isQuick) {
+    added.forEach(show);
+    changed();
+    note(`Reading ${many(read.length, "image")}.`);
   }
-  changed();
-  note(waiting.length ? `Reading ${many(waiting.length, "large image")}.` : "");
-  await Promise.all(waiting);
+  await doJob({ studies: images }, images, images.length, (found, i) => {
+    read[i].study = found;
+    if (!isQuick && items.includes(read[i])) show(read[i]);
+  });
+  if (isQuick) added.forEach(show);
   const bad = added.filter((item) => item.study.reason).length;
   note(`${many(added.length, "image")} read${bad ? `, ${bad} of them rejected` : ""}.`);
-  if (waiting.length) changed();
+  changed();
 }
 
 function remove(item) {
@@ -284,9 +313,10 @@ async function merge() {
   const good = items.filter((item) => item.study && !item.study.reason), found = $("union-found"), turn = ++merges;
   $("union").hidden = good.length === 0;
   if (good.length === 0) return;
-  const size = good.reduce((sum, item) => sum + item.study.size, 0);
   const job = { images: good.map((item) => item.bytes.subarray(0, item.study.size)), lgMaxK: Number($("bound").value), width: Number($("width").value) };
-  const it = size < LARGE ? done(hll, job) : await jobDone(job, size);
+  let it;
+  const later = doJob(job, job.images, 1, (found) => { it = found; });
+  if (it === undefined) await later;
   if (turn !== merges) return;
   if (it.reason) {
     const advice = it.reason === "other_lg_k" ? " Choose a bound: then the union has that lg_k, or the smallest of the images with registers." : "";
@@ -319,14 +349,27 @@ function count() {
 
 // ---- events
 
+/** Returns the bytes of a file, or why it can't be read: a directory, for example, or a file that was removed. */
+async function bytesOfFile(file) {
+  try {
+    return new Uint8Array(await file.slice(0, MOST_BYTES + 1).arrayBuffer());
+  } catch (why) {
+    return { reason: "file", message: `The browser can't read it (${why.name}). It may be a directory, or a file that was removed, or that you may not read.` };
+  }
+}
+
 async function readFiles(files) {
   note(`Reading ${many(files.length, "file")}.`);
   const added = [];
   for (const file of files) {
-    const bytes = new Uint8Array(await file.slice(0, MOST_BYTES + 1).arrayBuffer());
+    const name = shownName(file.name), bytes = await bytesOfFile(file);
+    if (!(bytes instanceof Uint8Array)) {
+      added.push({ name, bytes: null, study: bytes });
+      continue;
+    }
     const isText = bytes.length > 0 && !isImage(bytes) && bytes.every((byte) => byte >= 32 && byte < 127 || byte === 9 || byte === 10 || byte === 13);
-    if (isText) added.push(...ofLines(new TextDecoder().decode(bytes)).map((it) => ({ ...it, name: `${file.name}, ${it.name}` })));
-    else added.push({ name: file.name, bytes });
+    if (isText) added.push(...ofLines(new TextDecoder().decode(bytes)).map((it) => ({ ...it, name: it.name === "pasted text" ? name : `${name}, ${it.name}` })));
+    else added.push({ name, bytes });
   }
   await addAll(added);
 }

@@ -56,12 +56,21 @@ function faultPlace(hll, bytes, reason) {
   }
 }
 
-/** Reads an image: what its card shows. */
+/** Reads an image: what its card shows. A set can take a second to read, so it is read once, and the rest comes from what was made of it,
+ * which is quick to read. Registers are always quick. */
 function studyOf(hll, bytes) {
-  const reason = hll.fault(bytes);
-  if (reason !== null) return { reason, message: MESSAGES[REASONS.indexOf(reason)], place: faultPlace(hll, bytes, reason) };
-  const sketch = hll.Sketch.fromBytes(bytes);
-  return { info: hll.infoOf(bytes), size: hll.sizeOf(bytes), found: sketch.estimation(), counts: hll.histogramOf(bytes), hip: hll.hipOf(bytes) };
+  const sketch = new hll.Union(), head = hll.headOf(bytes);
+  try {
+    sketch.add(bytes);
+    const isRegisters = head.stage === "registers", made = isRegisters ? bytes : sketch.toBytes();
+    const info = isRegisters ? hll.infoOf(bytes) : { ...hll.infoOf(made), stage: head.stage, coupons: head.count, zeros: 0, width: head.width };
+    return { info, size: head.size, found: sketch.estimation(), counts: hll.histogramOf(made), hip: isRegisters ? hll.hipOf(bytes) : null };
+  } catch (why) {
+    if (!(why instanceof HllError) || why.reason === "memory") throw why;
+    return { reason: why.reason, message: MESSAGES[why.status], place: faultPlace(hll, bytes, why.reason) };
+  } finally {
+    sketch.free();
+  }
 }
 
 /** Returns the union of images, as an image and what is read of it; or which image was rejected, and why. */
@@ -83,7 +92,8 @@ function unionOf(hll, images, lgMaxK, width) {
   }
 }
 
-/** Does a job of the page's: { study: bytes } or { images, lgMaxK, width }. */
-function done(hll, job) {
-  return job.study ? studyOf(hll, job.study) : unionOf(hll, job.images, job.lgMaxK, job.width);
+/** Does a job of the page's, and passes each result on with its number: { studies: [bytes ..] } or { images, lgMaxK, width }. */
+function done(hll, job, pass) {
+  if (job.studies) job.studies.forEach((bytes, i) => pass(studyOf(hll, bytes), i));
+  else pass(unionOf(hll, job.images, job.lgMaxK, job.width), 0);
 }

@@ -151,6 +151,33 @@ async function main() {
   await drop("empty.hll", base64(Uint8Array.of(2, 1, 7, 10, 3, 12, 0, 8)));
   await wait(`document.querySelectorAll(".card").length === 7`);
 
+  // what is no image, each as one card: a directory, a file that can't be read, a log; and names that would change the page's lines
+  await clear();
+  fs.mkdirSync(path.join(directory, "folder"), { recursive: true });
+  const log = file("access.log", strings(20000, "2026-11-01 12:00:00 GET /index.html ").join("\n"));
+  await call("DOM.setFileInputFiles", { nodeId, files: [log, file("good.hll", a.toBytes()), file("page\u202elh.exe", hex(b))] });
+  await wait(`document.querySelectorAll(".card").length === 3`);
+  ok((await text(".card.bad .why")).startsWith("Rejected: text. This is no list of images: of its 20,000 lines"), await text(".card.bad .why"));
+  same(await js(`[...document.querySelectorAll(".card h3")].map((it) => it.textContent)`), ["access.log", "good.hll", "page\\u{202e}lh.exe"]);
+  await js(`{ const d = new DataTransfer(), gone = new File(["x"], "gone\\nestimate: 999.hll"), good = new File([Uint8Array.of(2, 1, 7, 10, 3, 12, 0, 8)], "empty.hll");
+    const drop = new DragEvent("drop", { bubbles: true });
+    Object.defineProperty(gone, "slice", { value: () => ({ arrayBuffer: () => Promise.reject(new DOMException("gone", "NotFoundError")) }) });
+    Object.defineProperty(drop, "dataTransfer", { value: { files: [gone, good], getData: () => "" } });
+    document.getElementById("drop").dispatchEvent(drop); }`);
+  await wait(`document.querySelectorAll(".card").length === 5`);
+  same(await js(`[...document.querySelectorAll(".card h3")].slice(3).map((it) => it.textContent)`), ["gone\\u{a}estimate: 999.hll", "empty.hll"]);
+  ok((await js(`[...document.querySelectorAll(".card.bad .why")].at(-1).innerText`)).startsWith("Rejected: file. The browser can't read it (NotFoundError)."), "a file that was removed");
+  ok(await js(`document.getElementById("union").compareDocumentPosition(document.getElementById("cards")) === Node.DOCUMENT_POSITION_FOLLOWING`), "the union comes before the cards");
+  await clear();
+  await call("DOM.setFileInputFiles", { nodeId, files: [path.join(directory, "folder"), file("good.hll", a.toBytes())] });
+  await wait(`document.querySelectorAll(".card").length === 2`);
+  ok((await text(".card.bad .why")).startsWith("Rejected: file. The browser can't read it"), `a directory: ${await text(".card.bad .why")}`);
+
+  // the files of before again
+  await clear();
+  await choose("bound", 12);
+  await paste([hex(a), hex(new Sketch(10).addMany(strings(3000))), hex(b)].join("\n"));
+
   // the download
   await call("Browser.setDownloadBehavior", { behavior: "allow", downloadPath: directory });
   await click("#union-found", "Download");
@@ -187,7 +214,8 @@ async function main() {
   same(await text("#said"), "1 image read.");
   await clear();
   await js(`document.getElementById("limit").value = "0"`);
-  await call("DOM.setFileInputFiles", { nodeId, files: [path.join(directory, "large.hll")] });
+  await call("DOM.setFileInputFiles", { nodeId, files: [file("medium.hll", new Sketch(14, 8).addMany(Float64Array.from({ length: 40000 }, (_, i) => i / 2)).toBytes()), path.join(directory, "large.hll")] });
+  await wait(`document.querySelectorAll(".card.bad").length === 2`);
   await wait(`document.querySelector(".card.bad .why")?.innerText.startsWith("Rejected: time. Reading took longer than 0 s")`);
   await js(`document.getElementById("limit").value = "10"`);
   passed++;
@@ -211,8 +239,10 @@ async function main() {
 
   // narrow
   await paste(["0201080a030c0008", original].join("\n"));
-  await size(400, 800);
-  ok((await js(`document.documentElement.scrollWidth`)) <= 400, `it scrolls sideways: ${await js(`document.documentElement.scrollWidth`)}`);
+  for (const width of [320, 400]) {
+    await size(width, 800);
+    ok((await js(`document.documentElement.scrollWidth`)) <= width, `it scrolls sideways: ${await js(`document.documentElement.scrollWidth`)}`);
+  }
   await shot("all-400.png");
   await clear();
   await js(`document.getElementById("sample").click()`);
