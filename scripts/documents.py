@@ -46,6 +46,7 @@ KNOWN = {"as_chunks_mut", "current_date", "postgres_fdw", "async_capable", "CURR
          "hll_sketch_alloc", "get_allocator",      # of datasketches-cpp
          "large_string", "to_parquet",             # of pyarrow and pandas
          "hll_sketch_agg", "stringEncoding",       # of Spark and Druid
+         "approx_count_distinct",                  # of Spark, DuckDB, Snowflake and others
          "hll_sketch_build", "hll_sketch_union", "hll_sketch_get_estimate", "hll_sketch_get_estimate_and_bounds"}
 SKIPPED_FOLDERS = {"out", "build", "dist", ".git", "target", "__pycache__"}
 SOURCES = {".rt", ".antt", ".py", ".c", ".h", ".cpp", ".hpp", ".sh", ".sql", ".rs", ".edit", ".map", ".control", ".toml", ".txt", ".plan", ".cmake", ".go", ".mjs", ".mts", ".html", ""}

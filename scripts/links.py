@@ -280,7 +280,7 @@ def faults_of_questions(text):
     """Questions of a page, rows of its tables, that don't lead to one or two sections; and whether there are too few."""
     rows = re.findall(r"^\| ([^|]*\?) \|(.*)\|$", text, re.M)
     for question, more in rows:
-        sections = re.findall(r"\]\([^)\s]+#[^)\s]+\)", more)
+        sections = re.findall(r"\]\([^)\s]*#[^)\s]+\)", more)
         if not 1 <= len(sections) <= 2:
             yield f"leads to {len(sections)} sections, not to one or two: {question}"
     if len(rows) < FEWEST:
