@@ -98,7 +98,12 @@ static std::string answer(const std::string &call, const std::string &given, con
 {
     if (call == "text" || call == "bytes") {
         const std::string text = bytes_of(given);
-        return text.find('\0') == std::string::npos ? kept(text, text.c_str()) : kept(text);
+#if __cplusplus >= 201703L
+        const std::string_view view(text);
+#else
+        const std::string &view = text;
+#endif
+        return text.find('\0') == std::string::npos ? kept(text, view, text.c_str()) : kept(text, view);
     }
     if (call == "integer")
         return of_integer(given);
