@@ -1,11 +1,11 @@
 # SPDX-License-Identifier: Apache-2.0
 """The cases of tests/behaviour, the table that every binding runs: in Python, and by lines and files of the command ``hll``."""
-import contextlib
 import datetime
 import decimal
-import io
 import os
 import struct
+import sys
+import tempfile
 import unittest
 import uuid
 from base64 import b64encode
@@ -115,17 +115,28 @@ class FilesTest(CommandTest):
     maxDiff = None
 
     def made(self, *words):
-        """The image that a command writes into one.hll, or its error. It runs in this process, which takes a hundredth of the time."""
-        said, before = io.StringIO(), os.getcwd()
-        os.chdir(self.folder)
+        """The image that a command writes into one.hll, or its error. A fork runs it, which takes a hundredth of the time of a process."""
+        with tempfile.TemporaryFile() as said:
+            child = os.fork()
+            if child == 0:
+                self.run_here(words, said.fileno())
+            status = os.waitpid(child, 0)[1]
+            said.seek(0)
+            return "rejected: " + said.read().decode().replace("\n", " ") if status else self.read("one.hll").hex()
+
+    def run_here(self, words, said):
+        status = 1
         try:
-            with contextlib.redirect_stderr(said), contextlib.redirect_stdout(io.StringIO()):
-                status = main(list(words))
+            os.chdir(self.folder)
+            os.dup2(said, 1)
+            os.dup2(said, 2)
+            sys.stdout, sys.stderr = open(1, "w"), open(2, "w")
+            status = main(list(words))
         except SystemExit as ended:
             status = ended.code
         finally:
-            os.chdir(before)
-        return "rejected: " + said.getvalue().replace("\n", " ") if status else self.read("one.hll").hex()
+            sys.stderr.flush()
+            os._exit(status)
 
     def answer(self, call, given):
         for name in self.listed():
