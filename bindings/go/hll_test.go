@@ -167,19 +167,6 @@ func TestBehaviour(t *testing.T) {
 	}
 }
 
-// The image that docs/FORMAT.md and the other languages have of "ann" and "bob".
-func TestKnownImage(t *testing.T) {
-	s := must[*Sketch](t)(New(12))
-	for _, name := range []string{"ann", "bob", "ann"} {
-		if err := s.AddString(name); err != nil {
-			t.Fatal(err)
-		}
-	}
-	if got := hex.EncodeToString(imageOf(t, s)); got != "0201070c03080208f8116004bf20641c" {
-		t.Error(got)
-	}
-}
-
 // The check runs all tests with HLL_CPU=x86-64-v2, too.
 func TestProcessor(t *testing.T) {
 	known := map[string][]string{"amd64": {"x86-64-v2", "x86-64-v3"}, "arm64": {"aarch64"}}[runtime.GOARCH]
@@ -194,16 +181,10 @@ func TestProcessor(t *testing.T) {
 	t.Errorf("the code for %s runs", Processor())
 }
 
+// What the cases of tests/behaviour can't write: another NaN, and no bytes at all.
 func TestValues(t *testing.T) {
 	one, other := must[*Sketch](t)(New(12)), must[*Sketch](t)(New(12))
-	for _, err := range []error{one.AddInt(-1), one.AddFloat(math.Copysign(0, -1)), one.AddFloat(math.NaN()), one.AddFloat(1.5), one.Add(nil)} {
-		if err != nil {
-			t.Fatal(err)
-		}
-	}
-	nan := math.Float64frombits(0xfff0000000000001)
-	for _, err := range []error{other.AddUint(math.MaxUint64), other.AddFloat(0), other.AddUint(0), other.AddFloat(nan),
-		other.Add([]byte{0, 0, 0, 0, 0, 0, 0xf8, 0x3f}), other.AddString("")} {
+	for _, err := range []error{one.AddFloat(math.NaN()), one.Add(nil), other.AddFloat(math.Float64frombits(0xfff0000000000001)), other.AddString("")} {
 		if err != nil {
 			t.Fatal(err)
 		}
@@ -211,7 +192,7 @@ func TestValues(t *testing.T) {
 	if !bytes.Equal(imageOf(t, one), imageOf(t, other)) {
 		t.Error("the same values have different images")
 	}
-	if found := must[Estimation](t)(one.Estimate()); math.Round(found.Estimate) != 5 || found.Lower[0] < 5 {
+	if found := must[Estimation](t)(one.Estimate()); math.Round(found.Estimate) != 2 || found.Lower[0] < 2 {
 		t.Error(found)
 	}
 }
