@@ -10,27 +10,13 @@ const wasm = fs.readFileSync(new URL("../build/hll-sketches/hll.wasm", import.me
 const hex = (bytes) => Buffer.from(bytes).toString("hex"), of = (text) => new Uint8Array(Buffer.from(text, "hex"));
 const one = (value) => hex(new Sketch(12).add(value).toBytes());
 const rejects = (reason) => (why) => why instanceof HllError && why.reason === reason;
-const real = (text) => { if (text === "inf") return Infinity; if (text === "-inf") return -Infinity; const [, sign, whole, part, power] = text.match(/^(-?)0x([01])\.([0-9a-f]+)p([-+]\d+)$/); return (sign ? -1 : 1) * (Number(whole) + parseInt(part, 16) / 16 ** part.length) * 2 ** Math.max(-1022, Number(power)) * 2 ** Math.min(0, Number(power) + 1022); };
 
-test("values hash as in Python", () => {
-  for (const [text, image] of expected.texts) assert.equal(one(text), image, text.slice(0, 20));
-  for (const [text, image] of expected.integers) {
-    assert.equal(one(BigInt(text)), image, text);
-    if (Number.isSafeInteger(Number(text))) assert.equal(one(Number(text)), image, text);
-  }
-  for (const [text, image] of expected.reals) {
-    assert.equal(one(new Real(real(text))), image, text);
-    if (!Number.isSafeInteger(real(text))) assert.equal(one(real(text)), image, text);
-    assert.equal(hex(new Sketch().addMany(Float64Array.of(real(text))).toBytes()), image, text);
-  }
-  assert.equal(one(NaN), expected.nan);
-  const nans = new Float64Array(BigUint64Array.of(0x7ff8000000000001n, 0xfff8000000000000n, 0x7ff0000000000001n).buffer);
-  assert.equal(hex(new Sketch().addMany(nans).toBytes()), expected.nan);
-  for (const nan of nans) assert.equal(one(nan), expected.nan);
-  for (const [bytes, image] of expected.bytes) { assert.equal(one(of(bytes)), image); assert.equal(one(of(bytes).buffer), image); }
-  assert.deepEqual([one(true), one(false)], expected.booleans);
-  assert.equal(couponOf("ann"), 0x046011f8);
-  assert.equal(one(null), hex(new Sketch(12).toBytes()));
+test("values that the cases of tests/behaviour can't write", () => {
+  const nans = new Float64Array(BigUint64Array.of(0x7ff8000000000001n, 0xfff8000000000000n, 0x7ff0000000000001n).buffer), wanted = one(NaN);
+  assert.equal(hex(new Sketch().addMany(nans).toBytes()), wanted);
+  for (const nan of nans) assert.equal(one(nan), wanted);
+  for (const value of [0, -0, 0.5, -1.5, 7, 1e300, 5e-324, Infinity, -Infinity, NaN]) assert.equal(hex(new Sketch().addMany(Float64Array.of(value)).toBytes()), one(new Real(value)));
+  assert.equal(one("x".repeat(100000)), expected.long);
 });
 
 test("many values", () => {
