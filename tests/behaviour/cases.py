@@ -132,7 +132,6 @@ def documented():
 def faults_of_format():
     """Where FORMAT's table of values and values.txt differ: a row for each type that every binding counts by its bytes, an example
     whose bytes have the coupon of the table, and where Python or SQL differ, the reason or what to pass instead."""
-    sys.path.append(str(HERE.parent))
     from plain_hash import coupon_of
 
     rows, kind = documented(), ""
@@ -147,6 +146,23 @@ def faults_of_format():
         for name, cell in zip(("python", "postgresql", "sqlite"), rows.get(kind, [""])[1:]):
             if not first and name in second.split(",") and not (why[0] in cell or third.startswith("rejected: ") and third[10:] in cell):
                 yield "FORMAT.md: the cell of %s in the row of the type %s doesn't say: %s" % (name, kind, why[0])
+
+
+def plainly(image):
+    """What the plain reader makes of an image, without the estimator fields and the flag that belongs to them; or the reason."""
+    from plain_reader import answer
+
+    word, made = answer(bytes.fromhex(image))
+    is_registers = len(made) > 2 and made[2] == 0
+    return word, made[:3] + made[28:] if is_registers else made
+
+
+def faults_of_images():
+    """Images of images.txt whose result is not what the plain reader makes of them, which shares no code with the library."""
+    for call, image, result in (line for line in lines_of("images.txt") if line[0] in ("whole", "first") and line[2] != "rejected: trailing"):
+        word, made = plainly(image)
+        if result.startswith("rejected") and result != "rejected: " + word or not result.startswith("rejected") and plainly(result) != (word, made):
+            yield "images.txt: %s %s: the plain reader says %s" % (call, image, word)
 
 
 def lives():
@@ -172,11 +188,12 @@ def faults_of_lives():
 
 
 def check():
+    sys.path.append(str(HERE.parent))       # for the plain models
     all_lines = lines()
     calls = {first for first, *_ in all_lines if first not in ("", "!")}
     found = ["%s: %s" % ("\t".join(it), fault) for it in all_lines for fault in faults_of(it, calls)]
     found += ["no test of %s runs the table" % binding for binding in BINDINGS if not runs_it(binding)]
-    found += [*faults_of_lives(), *faults_of_format()]
+    found += [*faults_of_lives(), *faults_of_format(), *faults_of_images()]
     count = len(all_lines) + len(BINDINGS) * (1 + len(lives()))
     for fault in found:
         print(fault)
