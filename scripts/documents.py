@@ -494,9 +494,10 @@ def make_scratch(folder):
 
 
 def run_step(command, wanted, folder, environment):
-    """Whether a command ends well, and prints what it should. What it exports is there for the next."""
+    """Whether each command of a step ends well, and whether the step prints what it should. The shell has the options of a reader's.
+    What the step exports is there for the next one."""
     exported = folder / ".exported"
-    script = f"set -e -o pipefail\n{command}\nenv -0 > '{exported}'"
+    script = f"trap 'failed=$?' ERR\n{command}\ntrap - ERR\nenv -u failed -0 > '{exported}'\nexit ${{failed:-0}}"
     ran = subprocess.run(["bash", "-c", script], cwd=folder, capture_output=True, text=True, env=environment)
     if ran.returncode == 0:
         environment.update(line.split("=", 1) for line in exported.read_text().split("\0") if line)

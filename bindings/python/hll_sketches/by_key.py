@@ -11,7 +11,7 @@ from urllib.parse import quote
 
 from . import _library
 from ._values import joined
-from .adding import int_of, is_int
+from .lines import int_of, is_int
 from .files import ALL, CONTENTS, UNUSABLE, FoundName, Item, Trouble, check_output, create_file, image_at
 from .files import image_of_file, locked, sync_folder, write_file, write_together
 from .rows import Batch, RowError, excerpt

@@ -14,8 +14,8 @@ from typing import Any, Callable, Dict, List, Optional
 from . import __version__, commands, processor
 from ._names import ESCAPING
 from ._signals import end_at_once
-from .adding import LONGEST_LINE
 from .files import REFUSED, STANDARD, UNUSABLE, OutputTrouble, Trouble
+from .lines import COLUMNS, CSV, JSON, LONGEST_LINE, WHOLE, Layout, number_of
 
 _ABOUT = "HyperLogLog sketches in the DataSketches format: make, merge, compare and look at them."
 _NOTES = """\
@@ -49,7 +49,6 @@ _lg_k = _number(4, 21, "an lg_k is 4 to 21")
 _jobs = _number(1, 1024, "the number of jobs is 1 to 1024")
 _most = _number(0, float("inf"), "a number of slots")
 _bytes = _number(0, float("inf"), "a number of bytes")
-_column = _number(1, 1 << 20, "without --csv, a column is a number from 1")
 
 _UNITS = {"K": 1 << 10, "M": 1 << 20, "G": 1 << 30}
 
@@ -207,8 +206,7 @@ def _new(parser: argparse.ArgumentParser) -> None:
 
 
 _BY_KEY: Dict[str, Any] = {
-    "lg_k": 12, "width": 8, "key": "1", "value": "2", "separator": None, "csv": False, "memory": 1 << 30,
-    "sorted": False,
+    "lg_k": 12, "width": 8, "key": "1", "memory": 1 << 30, "sorted": False,
 }
 """The options that go with ``--by-key``, and their defaults."""
 
@@ -220,13 +218,8 @@ def _with_keys(parser: argparse.ArgumentParser) -> None:
     help_ = "count lines by key, and keep all sketches in one file, an archive. It is made if it doesn't exist"
     parser.add_argument("--archive", metavar="FILE", help=help_)
     group = parser.add_argument_group("with --by-key or --archive")
-    what = "the column of the %s: its number, or with --csv its name in the header (%d)"
-    group.add_argument("--key", metavar="COLUMN", help=what % ("key", 1))
-    group.add_argument("--value", metavar="COLUMN", help=what % ("value", 2))
-    help_ = "what is between two columns (TAB, or with --csv a comma); \\t is TAB"
-    group.add_argument("--separator", type=_separator, metavar="TEXT", help=help_)
-    help_ = 'read CSV: the first line is the header, and columns may be quoted by "'
-    group.add_argument("--csv", action="store_true", default=None, help=help_)
+    help_ = "the column of the key: its number, or with --csv its name in the header (1)"
+    group.add_argument("--key", metavar="COLUMN", help=help_)
     help_ = "the most bytes of memory for sketches, also with K, M or G (1G)"
     group.add_argument("--memory", type=_memory, metavar="BYTES", help=help_)
     help_ = "lines are sorted by key: write each sketch once its key has ended, and so use little memory"
@@ -236,24 +229,46 @@ def _with_keys(parser: argparse.ArgumentParser) -> None:
     group.add_argument("--width", type=int, choices=(4, 6, 8), help=help_)
 
 
+def _with_input(parser: argparse.ArgumentParser) -> None:
+    """Adds the options that say how lines are read."""
+    group = parser.add_argument_group("how lines are read")
+    form = group.add_mutually_exclusive_group()
+    help_ = "lines have columns between TABs, without a header (default with --value)"
+    form.add_argument("--tsv", action="store_true", help=help_)
+    help_ = 'read CSV: the first line is the header, and columns may be quoted by "'
+    form.add_argument("--csv", action="store_true", help=help_)
+    form.add_argument("--jsonl", action="store_true", help="each line is a JSON object")
+    help_ = "the column to count, and not whole lines: its number, or with --csv or --jsonl its name"
+    group.add_argument("--value", metavar="COLUMN", help=help_)
+    help_ = "what is between two columns (TAB, or with --csv a comma); \\t is TAB"
+    group.add_argument("--separator", type=_separator, metavar="TEXT", help=help_)
+    help_ = "leave out lines with this value; may be repeated. With --csv an empty field is always missing, and " \
+        "with --jsonl null is"
+    group.add_argument("--missing", action="append", default=[], metavar="STRING", help=help_)
+    help_ = "leave out lines that can't be counted, print their number, and go on"
+    group.add_argument("--skip-bad", action="store_true", help=help_)
+    help_ = "what a value counts as: a string (default), or an integer in decimal, as in Python and SQL"
+    group.add_argument("--as", dest="kind", choices=("text", "int"), default="text", help=help_)
+    help_ = "count lines as they are, also those of files that are compressed or not text"
+    group.add_argument("--raw", action="store_true", help=help_)
+    help_ = f"the most bytes of a line, without its LF ({LONGEST_LINE:,})"
+    group.add_argument("--longest-line", type=_bytes, metavar="BYTES", default=LONGEST_LINE, help=help_)
+
+
 def _add(parser: argparse.ArgumentParser) -> None:
-    parser.add_argument("file", metavar="FILE", nargs="?", help="the file of a sketch")
+    help_ = "the file of the sketch, and then files of lines, also compressed by gzip, xz or bzip2 (standard input)"
+    parser.add_argument("inputs", metavar="FILE", nargs="*", help=help_)
     _with_output(parser, help="the file to write (FILE itself); - is standard output")
-    help_ = "what a line counts as: a string (default), or an integer in decimal, as in Python and SQL"
-    parser.add_argument("--as", dest="kind", choices=("text", "int"), default="text", help=help_)
     help_ = "wait for as long as another process holds the lock of FILE, and not ten seconds"
     parser.add_argument("--wait", action="store_true", help=help_)
-    help_ = f"the most bytes of a line, without its LF ({LONGEST_LINE:,})"
-    parser.add_argument(
-        "--longest-line", type=_bytes, metavar="BYTES", default=LONGEST_LINE, help=help_
-    )
     _with_plain(parser)
+    _with_input(parser)
     _with_keys(parser)
 
 
 _COMMANDS = (
     ("new", _new, "make an empty sketch", "hll new day.hll --lg-k 14"),
-    ("add", _add, "add lines of standard input, each a value", "cut -f2 log | hll add day.hll"),
+    ("add", _add, "add lines of files or of standard input, each a value", "hll add day.hll --value 2 log.gz"),
     ("estimate", _estimate, "print the estimated number of distinct values", "hll estimate *.hll"),
     ("merge", _merge, "merge any number of files", "hll merge days -o year.hll"),
     ("info", _info, "print lg_k, width, stage, estimate and more of each file; compare two", "hll info year.hll"),
@@ -278,7 +293,8 @@ _MORE = {
     "plot": "The picture is a histogram, with the shape that the theory expects for the estimate.",
     "new": "Add values to it with `hll add`.",
     "add": "A line counts as a string: its bytes without the LF, including a CR. An empty line is a "
-    "string too. So 7 is a string and not the integer 7, unless --as int is given. If another process "
+    "string too, unless --missing '' is given. Inputs are read to their ends before FILE is touched: if one of them "
+    "is cut, damaged or not text, nothing is added. The line 7 is a string and not the integer 7, unless --as int is given. If another process "
     "holds the lock of FILE for ten seconds, nothing is added, unless --wait is given. With --by-key, a "
     "line is a key, a TAB and a value, and each key has a file of its own: KEY.hll, with bytes other than "
     "letters, digits, '.', '_' and '-' written as %XX. With --archive, all keys are in one file.",
@@ -335,27 +351,46 @@ def _completed(parser: argparse.ArgumentParser) -> None:
         argcomplete.autocomplete(parser)
 
 
+def _layout_of(parser: argparse.ArgumentParser, options: argparse.Namespace) -> Layout:
+    """Returns how lines are read, or reports options that can't be combined."""
+    form = CSV if options.csv else JSON if options.jsonl else WHOLE if options.value is None else COLUMNS
+    if options.value is None and (form != WHOLE or options.tsv or options.separator is not None):
+        parser.error("--value COLUMN says what is counted")
+    if form == COLUMNS and number_of(options.value) is None:
+        parser.error(f"argument --value: without --csv, a column is a number from 1, not {options.value!r}")
+    separator = options.separator or (b"," if form == CSV else b"\t")
+    if form == CSV and (len(separator) > 1 or separator > b"\x7f" or separator in b'"\r'):
+        parser.error("with --csv a separator is one ASCII character, and neither a quote nor a CR")
+    missing = {os.fsencode(word) for word in options.missing} | ({b""} if form == CSV else set())
+    return Layout(
+        form, options.value or "1", (), separator, frozenset(missing), options.kind == "int", options.skip_bad,
+        is_raw=options.raw, longest=options.longest_line,
+    )
+
+
 def _check_add(parser: argparse.ArgumentParser, options: argparse.Namespace) -> None:
     """Reports arguments of ``add`` that can't be combined."""
     if options.by_key is not None or options.archive is not None:
         _check_by_key(parser, options)
         return
-    if options.file is None:
+    if not options.inputs:
         parser.error("add needs FILE, --by-key DIRECTORY or --archive FILE")
+    options.file, *options.inputs = options.inputs
     if options.file == STANDARD:
-        parser.error("standard input has the lines, so FILE can't be -")
+        parser.error("FILE is replaced, so it can't be -")
     for name in _BY_KEY:
         if getattr(options, name) is not None:
             parser.error(f"--{name.replace('_', '-')} goes with --by-key or --archive")
+    options.layout = _layout_of(parser, options)
 
 
 def _check_by_key(parser: argparse.ArgumentParser, options: argparse.Namespace) -> None:
     """Reports arguments of ``add`` with keys that can't be combined, and sets defaults."""
-    from .rows import Layout
+    from .rows import Layout as Rows
 
     which = "--by-key" if options.archive is None else "--archive"
     other = options.by_key if options.archive is not None else None
-    for name, given in (("FILE", options.file), ("-o", options.output), ("--by-key", other)):
+    for name, given in (("FILE", options.inputs or None), ("-o", options.output), ("--by-key", other)):
         if given is not None:
             parser.error(f"{name} and {which} don't go together")
     if options.archive == STANDARD:
@@ -364,20 +399,32 @@ def _check_by_key(parser: argparse.ArgumentParser, options: argparse.Namespace) 
         if getattr(options, name) is None:
             setattr(options, name, default)
     separator = options.separator or (b"," if options.csv else b"\t")
+    value = options.value or "2"
     if not options.csv:
-        for name in ("key", "value"):
-            try:
-                _column(getattr(options, name))
-            except argparse.ArgumentTypeError as error:
-                parser.error(f"argument --{name}: {error}")
+        for name, column in (("key", options.key), ("value", value)):
+            if number_of(column) is None:
+                parser.error(f"argument --{name}: without --csv, a column is a number from 1, not {column!r}")
     elif len(separator) > 1 or separator > b"\x7f" or separator in b'"\r':
         parser.error("with --csv a separator is one ASCII character, and neither a quote nor a CR")
-    options.layout = Layout(options.key, options.value, separator, options.csv)
+    options.layout = Rows(options.key, value, separator, options.csv)
+
+
+def _parsed(parser: argparse.ArgumentParser, arguments: Optional[List[str]]) -> argparse.Namespace:
+    """Returns the arguments. Names of files may follow options."""
+    options, more = parser.parse_known_args(arguments)
+    at = more.index("--") if "--" in more else len(more)
+    unknown = [word for word in more[:at] if word.startswith("-") and word != STANDARD]
+    names = next((name for name in ("inputs", "files") if hasattr(options, name)), None)
+    if more and (unknown or names is None):
+        parser.error(f"unrecognized arguments: {' '.join(unknown or more)}")
+    if names is not None:
+        setattr(options, names, [*getattr(options, names), *more[:at], *more[at + 1 :]])
+    return options
 
 
 def _chosen(parser: argparse.ArgumentParser, arguments: Optional[List[str]]) -> argparse.Namespace:
     """Returns the arguments, or reports that they can't be combined."""
-    options = parser.parse_args(arguments)
+    options = _parsed(parser, arguments)
     if getattr(options, "json", False) and getattr(options, "output", None) == STANDARD:
         parser.error("--json and an image on standard output don't go together")
     if options.command == "add":

@@ -13,14 +13,14 @@ from functools import partial
 from typing import TYPE_CHECKING, Any, BinaryIO, Callable, Dict, Iterable, Iterator, List
 from typing import Optional, Tuple, Union
 
-from . import _library
+from . import _library, counting
 from ._errors import ArgumentError
 from ._names import shown
-from .adding import LineError, Lines, LongLineError
 from .files import REFUSED, STANDARD, UNUSABLE, OutputTrouble, Trouble, bytes_of_file, check_output
 from .files import image_at, image_of_file, image_trouble, locked, of_bytes, of_file, write_file
 from .finding import Tell, found, names_in
 from .layout import STAGES, estimator_fields_of, flags_of, registers_of, size_of
+from .lines import LineError, Reader
 from .progress import Bar, InputBar
 from .tables import aligned
 
@@ -468,7 +468,7 @@ def new(options: Namespace) -> int:
 
 
 def add(options: Namespace) -> int:
-    """Adds the lines of standard input to a sketch.
+    """Adds the lines of inputs to a sketch.
 
     The lines are read first. Then the file is locked, read, and replaced by its union with the
     sketch of the lines. So several ``add`` may run on one file at the same time without losing
@@ -482,44 +482,28 @@ def add(options: Namespace) -> int:
     lg_k = _library.lg_k_in(image_of_file(options.file))
     options.output = options.output or options.file
     check_output(options.output, options.force)
-    lines = _lines_of_input(lg_k, options.kind == "int", options.longest_line)
-    _warn_of_cr(lines.ending_in_cr)
+    reader = Reader(options.layout)
+    lines = counting.image_of(reader, options.inputs or [STANDARD], lg_k)
+    for words in reader.sums.said():
+        say(words)
     with locked(options.file, say if options.wait else None):
         image = image_at(options.file, lg_k)
-        if lines.count:
-            image = _library.merge(lg_k, _library.width_in(image), image, lines.image)
-        return put(options, finished(image, options.plain), lines=lines.count)
-
-
-def _warn_of_cr(lines: int) -> None:
-    """Reports lines that end in a CR."""
-    if lines:
-        say(f"standard input: {lines:,} lines end in a CR, which counts as a part of them")
+        if reader.sums.counted:
+            image = _library.merge(lg_k, _library.width_in(image), image, lines)
+        sums = {"lines": reader.sums.counted, "left_out": reader.sums.left_out}
+        return put(options, finished(image, options.plain), **sums)
 
 
 @contextmanager
-def _standard_input(longest: int) -> Iterator[BinaryIO]:
+def _standard_input() -> Iterator[BinaryIO]:
     """Opens standard input, and reports its errors."""
     try:
         with open(os.dup(0), "rb") as stream:
             yield stream
-    except LongLineError as error:
-        words = f"line {error.number:,} is longer than {longest:,} bytes (--longest-line changes this)"
-        raise Trouble("standard input", words) from None
     except LineError as error:
-        line = error.line.decode("utf-8", "replace")
-        words = f"line {error.number:,} is no integer of 64 bits: {shown(line)}"
-        raise Trouble("standard input", words) from None
+        raise Trouble("standard input", f"line {error.number:,} {error.words}") from None
     except OSError as error:
         raise Trouble("standard input", error.strerror or str(error), UNUSABLE) from None
-
-
-def _lines_of_input(lg_k: int, are_ints: bool, longest: int) -> Lines:
-    """Returns a sketch of the lines of standard input."""
-    lines = Lines(_library.new(lg_k, 8), are_ints, longest)
-    with _standard_input(longest) as stream, InputBar() as bar:
-        lines.add(stream, bar.more)
-    return lines
 
 
 def _add_by_key(options: Namespace) -> int:
@@ -530,7 +514,8 @@ def _add_by_key(options: Namespace) -> int:
     counters = Counters(store.begin, options.kind == "int", options.memory)
     try:
         _count_by_key(options, counters, store)
-        _warn_of_cr(counters.ending_in_cr)
+        if counters.ending_in_cr:
+            say(f"standard input: {counters.ending_in_cr:,} lines end in a CR, which counts as a part of them")
         with Bar("key", len(counters.images)) as bar:
             store.write_all(counters, sorted(counters.images), bar.more)
     except Trouble as trouble:
@@ -565,13 +550,13 @@ def _count_by_key(
     from .rows import RowError
 
     try:
-        with _standard_input(options.longest_line) as stream, InputBar() as bar:
+        with _standard_input() as stream, InputBar([STANDARD]) as bar:
             for batch in options.layout.batches(stream, options.longest_line):
                 counters.add(batch)
                 if options.sorted and batch.pairs:
                     last = batch.pairs[-1][0]
                     store.flush(counters, [key for key in counters.images if key != last])
-                bar.more(len(batch.pairs))
+                bar.counted_lines(len(batch.pairs))
     except RowError as error:
         raise Trouble("standard input", f"line {error.number:,} {error.words}") from None
     except FullError as error:

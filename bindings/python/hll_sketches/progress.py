@@ -6,9 +6,10 @@ import os
 import stat
 import sys
 import time
-from typing import Any, Iterable, Iterator, Optional, TypeVar
+from typing import Any, Iterable, Iterator, Optional, Sequence, TypeVar
 
 T = TypeVar("T")
+_Bar = TypeVar("_Bar", bound="Bar")
 
 DELAY, PAUSE = 1.0, 0.5
 """The seconds before something is shown, and those between two changes of a line."""
@@ -93,7 +94,7 @@ class Bar:
         if self._bar is not None:
             self._bar.update(count)
 
-    def __enter__(self) -> "Bar":
+    def __enter__(self: _Bar) -> _Bar:
         return self
 
     def __exit__(self, *_: object) -> None:
@@ -102,21 +103,36 @@ class Bar:
 
 
 class InputBar(Bar):
-    """Shows how much of standard input is read: bytes of a file, whose size is known, and otherwise lines."""
+    """Shows how much of inputs is read: bytes of files, whose sizes are known, and otherwise lines.
 
-    def __init__(self) -> None:
-        self._place: Optional[int] = None
-        total = None
-        found = os.fstat(0)
-        if stat.S_ISREG(found.st_mode):
-            self._place = os.lseek(0, 0, os.SEEK_CUR)
-            total = max(found.st_size - self._place, 0)
-        super().__init__("line" if self._place is None else "B", total)
+    Parameters
+    ----------
+    names : sequence of str
+        The inputs; ``-`` is standard input.
+    """
 
-    def more(self, count: int) -> None:
-        """Reports that ``count`` more lines are done. The place in the file is that of the last block."""
-        if self._place is None:
-            super().more(count)
-        elif self._bar is not None:
-            before, self._place = self._place, os.lseek(0, 0, os.SEEK_CUR)
-            super().more(self._place - before)
+    def __init__(self, names: Sequence[str]) -> None:
+        known = [size for size in map(_size_of, names) if size is not None]
+        self._counts_bytes = len(known) == len(names)
+        super().__init__("B" if self._counts_bytes else "line", sum(known) if self._counts_bytes else None)
+
+    def read(self, size: int) -> None:
+        """Reports that this number of bytes more is read."""
+        if self._counts_bytes:
+            self.more(size)
+
+    def counted_lines(self, count: int) -> None:
+        """Reports that this number of lines more is counted."""
+        if not self._counts_bytes:
+            self.more(count)
+
+
+def _size_of(name: str) -> Optional[int]:
+    """Returns how many bytes an input has, or None if that isn't known."""
+    try:
+        found = os.fstat(0) if name == "-" else os.stat(name)
+    except (OSError, ValueError):
+        return None
+    if not stat.S_ISREG(found.st_mode):
+        return None
+    return max(found.st_size - os.lseek(0, 0, os.SEEK_CUR), 0) if name == "-" else found.st_size

@@ -9,7 +9,7 @@ from operator import itemgetter, methodcaller
 from typing import BinaryIO, Callable, Iterable, Iterator, List, NamedTuple, Sequence, Tuple
 
 from ._names import shown
-from .adding import LONGEST_LINE, lines_of
+from .lines import LONGEST_LINE, lines_of
 
 BLOCK, RECORDS = 1 << 22, 1 << 17
 """The bytes of lines, and the records of CSV, that are read at a time. Each key of a batch costs a call of the
@@ -73,7 +73,7 @@ class Layout(NamedTuple):
         LongLineError
             If a line is longer than ``longest``.
         """
-        lines = lines_of(stream, longest, BLOCK)
+        lines = lines_of(iter(lambda: stream.read(BLOCK), b""), longest)
         return _records(self, lines, longest) if self.is_csv else _split_lines(self, lines)
 
 

@@ -109,6 +109,7 @@ class BehaviourTest(CommandTest):
             if kind != "single" and not wanted.startswith(("rejected", "missing")):
                 self.assertEqual("%08x" % coupon_of(BYTES.get(kind, bytes)(written)), wanted, (kind, written))
 
+
 class FilesTest(CommandTest):
     """The command ``hll``: a value is a line, and an image a file."""
 
@@ -143,7 +144,7 @@ class FilesTest(CommandTest):
             (self.folder / name).unlink()
         if call in ("text", "missing"):
             self.made("new", "one.hll")
-            status, _, said = self.run_hll("add", "one.hll", given=(given or b"") + b"\n")
+            status, _, said = self.run_hll("add", "one.hll", "--raw", given=(given or b"") + b"\n")
             return "rejected: " + said if status else kept(self.read("one.hll"))
         if call == "whole":
             image = bytes.fromhex(given)

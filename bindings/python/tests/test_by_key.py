@@ -417,7 +417,6 @@ class ByKeyTest(CommandTest):
             ([], "add needs FILE, --by-key DIRECTORY or --archive FILE"),
             (["a.hll", "--by-key", "keys"], "FILE and --by-key don't go together"),
             (["--by-key", "keys", "-o", "a.hll"], "-o and --by-key don't go together"),
-            (["a.hll", "--csv"], "--csv goes with --by-key or --archive"),
             (["a.hll", "--lg-k", "9"], "--lg-k goes with --by-key or --archive"),
             (["--by-key", "keys", "--key", "name"], "argument --key: without --csv, a column is a number"),
             (["--by-key", "keys", "--value", "0"], "argument --value: without --csv, a column is a number"),

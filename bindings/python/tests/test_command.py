@@ -23,7 +23,7 @@ from unittest import mock
 
 import common  # noqa: F401, for the path
 from command import COMMAND, CUT, CommandTest, TEXT, TRUNCATED, environment, interruptible
-from hll_sketches import Sketch, __version__, _library, adding, cli, commands, fault_of, files, layout, processor, write_archive
+from hll_sketches import Sketch, __version__, _library, cli, commands, counting, fault_of, files, layout, processor, write_archive
 from hll_sketches._errors import explained
 from hll_sketches._names import shown
 from mutants import KINDS, Mutants
@@ -150,41 +150,7 @@ class NewTest(CommandTest):
         self.fails(2, ["none/a.hll: No such file or directory"], "new", "none/a.hll")
 
 
-def added(data, more=None, are_ints=False):
-    """The image of lines, and their number."""
-    lines = adding.Lines(Sketch().to_bytes(), are_ints)
-    lines.add(io.BytesIO(data), more)
-    return lines.image, lines.count
-
-
-def in_blocks(data, size):
-    with mock.patch.object(adding, "BLOCK", size):
-        return added(data)
-
-
 class AddTest(CommandTest):
-    def test_lines_are_values(self):
-        numbers = random.Random(5)
-        texts = [b"", b"\n", b"\n\n", b"a", b"a\n", b"a\n\nb", b"a\r\nb\r\n", b"\na", b"\0\n\xff\n"]
-        texts += [numbers.randbytes(3000).replace(b"\1", b"\n\n") for _ in range(5)]
-        for text in texts:
-            lines = text.split(b"\n")
-            if not lines[-1]:
-                lines.pop()
-            wanted = Sketch()
-            for line in lines:
-                wanted.update(line)
-            for size in (1, 2, 3, 7, 1 << 20):
-                image, count = in_blocks(text, size)
-                self.assertEqual((image, count), (wanted.to_bytes(), len(lines)), (text, size))
-
-    def test_long_lines_of_many_blocks(self):
-        text = b"x" * 3_000_000 + b"\n" + b"y" * 10 + b"\n" + b"z" * 2_500_000
-        told = []
-        image, count = added(text, told.append)
-        self.assertEqual((image, count), (sketch_of(text.split(b"\n")).to_bytes(), 3))
-        self.assertEqual(told, [2, 1])
-
     def test_command(self):
         lines = [b"%d" % number for number in range(300_000)]
         self.succeeds("new", "a.hll", "--width", 6)
@@ -221,10 +187,9 @@ class AddTest(CommandTest):
         self.succeeds("add", "a.hll", "--as", "int", given=given)
         values = [1, -2, 3, 2**64 - 1, 4, -(2**63), 0]
         self.assertEqual(self.read("a.hll"), image_of(values))
-        many = "".join(f"{number}\n" for number in range(200_000)).encode()
-        self.assertEqual(added(many, are_ints=True), (image_of(range(200_000)), 200_000))
         for bad in ("x", "", "1.0", "1_000", "18446744073709551616", "-9223372036854775809"):
-            err = f"standard input: line 100,001 is no integer of 64 bits: {shown(bad)}"
+            err = f"standard input: line 100,001 is no integer of 64 bits ({shown(bad)}): nothing was counted " \
+                "(--skip-bad leaves such lines out)"
             given = b"5\n" * 100_000 + f"{bad}\n5\n".encode()
             self.fails(1, [err], "add", "a.hll", "--as", "int", given=given)
         self.assertEqual(self.read("a.hll"), image_of(values))
@@ -232,7 +197,7 @@ class AddTest(CommandTest):
     def test_lines_that_end_in_cr(self):
         """They count with it, and that is said."""
         self.succeeds("new", "a.hll")
-        words = "hll: standard input: 2 lines end in a CR, which counts as a part of them\n"
+        words = "hll: 2 lines end in a CR, which counts as a part of them\n"
         told = self.run_hll("add", "a.hll", given=b"a\r\nb\nc\r\n")
         self.assertEqual(told, (0, b"", words))
         self.assertEqual(self.read("a.hll"), image_of([b"a\r", b"b", b"c\r"]))
@@ -279,9 +244,8 @@ class AddTest(CommandTest):
             with files.locked(name, tell):
                 self.assertEqual(said, [f"{name}: waits for its lock, as {waits}"])
         for words, wanted in ((["--wait"], True), ([], False)):
-            none = adding.Lines(Sketch().to_bytes())
             with mock.patch.object(commands, "locked") as locked, \
-                    mock.patch.object(commands, "_lines_of_input", return_value=none):
+                    mock.patch.object(counting, "image_of", return_value=before):
                 self.assertEqual(cli._run(["add", name, *words]), 0)
             self.assertEqual(locked.call_args.args, (name, commands.say if wanted else None))
         self.assertEqual(self.read("a.hll"), before)
@@ -309,14 +273,14 @@ class AddTest(CommandTest):
             (b"a\n" * 600_000 + b"b" * 3_000_000 + b"\n", 2_999_999, "600,001"),
         ):
             words = f"standard input: line {number} is longer than {longest:,} bytes " \
-                "(--longest-line changes this)"
+                "(--longest-line changes this): nothing was counted"
             self.fails(1, [words], "add", "a.hll", "--longest-line", longest, given=given)
             self.assertEqual(self.read("a.hll"), before)
             self.succeeds("add", "a.hll", "-o", "b.hll", "--longest-line", longest + (3 if longest < 9 else 1), given=given)
         with open("/dev/zero", "rb") as endless:
-            done = subprocess.run([*COMMAND, "add", "a.hll"], stdin=endless, cwd=self.folder,
+            done = subprocess.run([*COMMAND, "add", "--raw", "a.hll"], stdin=endless, cwd=self.folder,
                                   env=environment(), capture_output=True, timeout=60)
-        words = b"hll: standard input: line 1 is longer than 67,108,864 bytes (--longest-line changes this)\n"
+        words = b"hll: standard input: line 1 is longer than 67,108,864 bytes (--longest-line changes this): nothing was counted\n"
         self.assertEqual((done.returncode, done.stdout, done.stderr), (1, b"", words))
         self.assertEqual(self.read("a.hll"), before)
 
@@ -1063,8 +1027,7 @@ class StreamsTest(CommandTest):
             ("check all", ["2 of 2 file"], None), ("merge all -o x", ["2 of 2 file"], None),
             ("info all/a all/b", ["2 of 2 file"], None), ("estimate all/a all/b all/a", ["3 of 3 file"], None),
             ("merge --by-key k.keys k.keys -o x", ["2 of 2 file", "4 of 4 image"], None),
-            ("add all/a", ["4000 of 4000 B"], lines), ("add --by-key d", ["4000 of 4000 B", "1 of 1 key"], lines),
-            ("add --archive e", ["4000 of 4000 B", "1 of 1 key"], lines),
+            ("add all/a", ["4000 of 4000 B"], lines), ("add all/a lines lines", ["8000 of 8000 B"], None),
         ):
             wanted = "".join(f"BAR {bar} 1.0\r\n" for bar in bars).encode()
             self.assertEqual(self.seen([*COMMAND, *command.split()], given, PYTHONPATH=path), (0, wanted), command)
@@ -1080,8 +1043,9 @@ class StreamsTest(CommandTest):
         """Of lines whose number is not known."""
         self.write("stub/tqdm.py", STUB.encode())
         path = os.pathsep.join([str(self.folder / "stub"), str(common.PACKAGE)])
-        words = ["sh", "-c", "seq 30 | " + " ".join([*COMMAND, "add --archive e --key 1 --value 1"])]
-        self.assertEqual(self.seen(words, PYTHONPATH=path), (0, b"BAR 30 of None line 1.0\r\nBAR 30 of 30 key 1.0\r\n"))
+        self.write("a.hll", Sketch().to_bytes())
+        words = ["sh", "-c", "seq 30 | " + " ".join([*COMMAND, "add a.hll"])]
+        self.assertEqual(self.seen(words, PYTHONPATH=path), (0, b"BAR 30 of None line 1.0\r\n"))
 
     def test_progress_without_tqdm(self):
         """A line is written again now and then, and cleared; nothing within the first second."""

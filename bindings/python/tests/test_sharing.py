@@ -484,12 +484,10 @@ class ManyTest(unittest.TestCase):
 
     def test_lines_of_open_files(self):
         """As `hll add` counts them: a CR stays, an empty line is a value, a last LF ends one."""
-        from hll_sketches.adding import Lines
+        from hll_sketches.lines import lines_of
 
         for text in (b"", b"\n", b"a\nb\r\n\nc", b"a\nb\n", "caf\u00e9\n\u4e2d".encode()):
-            lines = Lines(Sketch().to_bytes())
-            lines.add(io.BytesIO(text))
-            wanted = lines.image
+            wanted = sketch([line for some in lines_of([text]) for line in some]).to_bytes()
             with tempfile.NamedTemporaryFile(suffix=".txt") as file:
                 file.write(text)
                 file.flush()
