@@ -54,7 +54,7 @@ echo 'ok: the example in C, shared and static'
 c++ -o example "$ROOT"/usr/share/doc/libhll-dev/examples/example.cpp $(pkg-config --cflags --libs hll)
 seq 1 1000 >numbers
 near_1000 "$(./example numbers | awk '$NF == "all" { print $1 }')"
-near_1000 "$(hll estimate numbers.hll)"
+near_1000 "$(hll estimate - <numbers.hll)"
 echo 'ok: the example in C++'
 
 [ "$(sqlite3 :memory: '.load hll_sketches' 'SELECT hll_estimate(hll_add_agg(value)) BETWEEN 950 AND 1050 FROM generate_series(1, 1000)')" = 1 ]

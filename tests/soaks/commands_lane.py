@@ -1,12 +1,13 @@
 # SPDX-License-Identifier: Apache-2.0
-"""The command hll: processes add to one archive and to one directory at the same time, and archives are merged, while processes are
-killed and interrupted, and the disk is full from time to time. The Python package reads and merges the archive in one process."""
+"""The command hll: processes add to one database of keys and to sketches at the same time, and databases are merged, while processes are
+killed and interrupted, and the disk is full from time to time. The Python package reads and merges the database in one process."""
 import contextlib
 import os
 import pathlib
 import resource
 import shutil
 import signal
+import sqlite3
 import subprocess
 import sys
 import threading
@@ -15,12 +16,25 @@ import time
 from lanes import CONFIRMED, FAILED, KEYS, LG_K, UNKNOWN, Disk, Lane, raise_registers
 
 TOP = pathlib.Path(__file__).resolve().parent.parent.parent
-sys.path[:0] = [str(TOP / "bindings" / "python"), str(TOP / "tests" / "fuzz")]
-from archives import plain_entries  # noqa: E402
-from hll_sketches import read_archive, union_of  # noqa: E402
+sys.path[:0] = [str(TOP / "bindings" / "python")]
+from hll_sketches import Database  # noqa: E402
 
-MEETING = ("add to an archive", "add next to it")
+MEETING = ("add to a database", "add next to it")
+FULL = ("No space left", "File too large", "disk is full", "disk I/O error", "no journal can be made", "KeyboardInterrupt")
+COLUMNS = ["--key", "key=1", "--value", "2", "--int"]
 MOST_FILE = 20000       # bytes of a file, where no small disk can be mounted
+
+
+def remove(file):
+    """Removes a database, and the journal that a killed command may have left."""
+    file.unlink(missing_ok=True)
+    file.with_name(file.name + "-journal").unlink(missing_ok=True)
+
+
+def rows_of(file):
+    """The images of a database by their keys, as SQLite reads them."""
+    with contextlib.closing(sqlite3.connect(file)) as connection:
+        return dict(connection.execute("SELECT key, image FROM sketches"))
 
 
 class Commands(Lane):
@@ -28,23 +42,23 @@ class Commands(Lane):
 
     def begin(self):
         self.disk = Disk(self.folder / "disk", 24)
-        self.archive, self.directory = self.disk.place / "days.keys", self.disk.place / "days"
-        self.merged, self.other = self.disk.place / "merged.keys", self.folder / "other.keys"
+        self.database, self.directory = self.disk.place / "days.db", self.disk.place / "days"
+        self.merged, self.other = self.disk.place / "merged.db", self.folder / "other.db"
         self.running, self.is_limited, self.meeting = set(), threading.Event(), threading.Barrier(2)
         self.start_again()
 
     def start_again(self):
         """Removes all sketches."""
-        for file in (self.archive, self.merged, self.other):
-            file.unlink(missing_ok=True)
+        for file in (self.database, self.merged, self.other):
+            remove(file)
         shutil.rmtree(self.directory, ignore_errors=True)
         self.directory.mkdir()
         self.empty()
         self.files = {key: bytearray(1 << LG_K) for key in range(KEYS)}
-        subprocess.run([TOP / "bin" / "hll", "add", "--archive", self.other, "--as", "int"], input=b"key 0\t1\nother\t7\n", check=True)
+        subprocess.run([TOP / "bin" / "hll", "add", "--db", self.other, *COLUMNS], input=b"key 0\t1\nother\t7\n", check=True)
 
     def meet(self):
-        """Waits for the other command that adds to the archive, so both write at the same moment."""
+        """Waits for the other command that adds to the database, so both write at the same moment."""
         try:
             self.meeting.wait(0.7)
         except threading.BrokenBarrierError:
@@ -80,7 +94,7 @@ class Commands(Lane):
             told = said.read()
         if process.returncode == 0:
             self.lives["hll %s 0" % kind].append(used.ru_maxrss)
-        elif process.returncode > 0 and "No space left" not in told and "File too large" not in told and "KeyboardInterrupt" not in told:
+        elif process.returncode > 0 and not any(words in told for words in FULL):
             self.fault("hll %s ended with status %d: %s" % (kind, process.returncode, told[-200:]))
         self.figures["commands"] += 1
         return process.returncode
@@ -90,47 +104,53 @@ class Commands(Lane):
         batch = self.new_batch()
         lines = "".join("key %d\t%d\n" % (batch.key, value) for value in range(batch.first, batch.first + batch.count))
         status = self.hll(kind, words, (lines + "done %06d\t1\n" % batch.number).encode())
-        # a command that was killed or interrupted may have written the archive before
+        # a command that was killed or interrupted may have written the database before
         self.settle(batch, CONFIRMED if status == 0 else UNKNOWN if status < 0 or status == 128 + signal.SIGINT else FAILED)
         self.wait(self.numbers.uniform(0, 0.1))
 
-    def add_to_archive(self):
-        self.add("add to an archive", ["add", "--archive", self.archive, "--as", "int", "--wait"])
+    def add_to_database(self):
+        self.add("add to a database", ["add", "--db", self.database, *COLUMNS, "--wait"])
 
     def add_next_to_it(self):
-        self.add("add next to it", ["add", "--archive", self.archive, "--as", "int", "--wait", "--width", "4"])
+        self.add("add next to it", ["add", "--db", self.database, *COLUMNS, "--wait", "--memory", "0"])
 
-    def add_to_directory(self):
-        """Files by key are written one after another: each has the batch, or not."""
+    def add_to_sketch(self):
+        """A sketch for each key: it has the batch, or not."""
         batch = self.new_batch()
         with self.lock:
             del self.batches[batch.number]
-        lines = "".join("%d\t%d\n" % (batch.key, value) for value in range(batch.first, batch.first + batch.count))
-        status = self.hll("add by key", ["add", "--by-key", self.directory, "--as", "int"], lines.encode())
-        self.settle(batch, CONFIRMED if status == 0 else UNKNOWN if status < 0 or status == 128 + signal.SIGINT else FAILED)
+        lines = "".join("%d\n" % value for value in range(batch.first, batch.first + batch.count))
         file, wanted = self.directory / ("%d.hll" % batch.key), bytearray(self.files[batch.key])
+        status = self.hll("add to a sketch", ["add", file, "--create", "--int"], lines.encode())
+        self.settle(batch, CONFIRMED if status == 0 else UNKNOWN if status < 0 or status == 128 + signal.SIGINT else FAILED)
         raise_registers(wanted, batch.coupons)
-        if batch.state == CONFIRMED or (batch.state == UNKNOWN and file.exists() and not self.is_as_before(file, batch.key)):
+        data = file.read_bytes() if file.exists() else b""
+        if batch.state == CONFIRMED or (batch.state == UNKNOWN and data and not self.is_as_before(data, batch.key)):
             self.files[batch.key] = wanted
-        if file.exists() or any(self.files[batch.key]):
-            self.same("the file of key %d" % batch.key, file.read_bytes() if file.exists() else None, self.files[batch.key])
+        if data or any(self.files[batch.key]):
+            self.same("the file of key %d" % batch.key, data or None, self.files[batch.key])
         self.wait(self.numbers.uniform(0, 0.1))
 
-    def is_as_before(self, file, key):
+    def is_as_before(self, data, key):
         before = len(self.faults)
-        self.same("a file", file.read_bytes(), self.files[key])
+        self.same("a file", data, self.files[key])
         is_same = len(self.faults) == before
         del self.faults[before:]
         return is_same
 
     def merge(self):
-        """Merges the archive with another one, by key."""
-        if self.archive.exists():
-            self.hll("merge by key", ["merge", "--by-key", self.archive, self.other, "-o", self.merged, "--width", "8"])
+        """Merges the database with another one, key by key."""
+        if self.is_there():
+            remove(self.merged)
+            self.hll("merge databases", ["merge", self.database, self.other, "-o", self.merged])
         self.wait(self.numbers.uniform(0.1, 0.3))
 
+    def is_there(self):
+        """Whether a command has made the database; one that was killed may have left an empty file."""
+        return self.database.exists() and self.database.stat().st_size > 0
+
     def round(self, seconds):
-        threads, end = self.at_once(seconds, self.add_to_archive, self.add_next_to_it, self.add_to_directory, self.merge)
+        threads, end = self.at_once(seconds, self.add_to_database, self.add_next_to_it, self.add_to_sketch, self.merge)
         while time.monotonic() < end:
             time.sleep(self.numbers.uniform(0.1, 0.5))
             if self.numbers.random() < 0.7:
@@ -154,31 +174,35 @@ class Commands(Lane):
         self.stop(threads)
         if self.planted == "memory":
             self.kept = getattr(self, "kept", b"") + b"x" * (2 << 20)
-        if self.archive.exists() and self.spoils():
-            self.archive.write_bytes(self.other.read_bytes())
+        if self.is_there() and self.spoils():
+            with contextlib.closing(sqlite3.connect(self.database, isolation_level=None)) as connection:
+                connection.execute("DELETE FROM sketches")
         self.verify()
-        self.watch("Python that reads the archive", os.getpid())
+        self.watch("Python that reads the database", os.getpid())
         if self.is_full() or len(list(self.disk.place.iterdir())) > 60:
             self.start_again()
 
     def verify(self):
-        if not self.archive.exists():
+        if not self.is_there():
             self.compare([], {})
             return
-        images = dict(plain_entries(self.archive.read_bytes()))
-        listed = [int(key[5:]) for key in images if key.startswith(b"done ")]
-        self.compare(listed, {key: images.get(b"key %d" % key) for key in range(KEYS)})
-        sketches = [sketch for key, sketch in read_archive(self.archive) if key.startswith(b"key ")]
+        images = rows_of(self.database)
+        listed = [int(key[5:]) for key in images if key.startswith("done ")]
+        self.compare(listed, {key: images.get("key %d" % key) for key in range(KEYS)})
         wanted = bytes(max(values) for values in zip(*self.registers.values()))
-        for _ in range(50):
-            image = union_of(sketches).to_bytes()
-        self.same("the union of an archive", image, wanted)
-        if self.hll("merge by key", ["merge", "--by-key", self.archive, self.other, "-o", self.merged, "--width", "8"]) == 0:
-            images = dict(plain_entries(self.merged.read_bytes()))
-            if set(images) - {b"other", b"key 0"} != {key for key, _ in read_archive(self.archive)} - {b"key 0"}:
+        with Database(self.database) as database:
+            for fault in database.faults():
+                self.fault("the database is damaged: %s" % (fault,))
+            for _ in range(20):
+                found = dict(database.union(where="key LIKE 'key %'"))
+        self.same("the union of a database", found[()].to_bytes() if found else None, wanted)
+        remove(self.merged)
+        if self.hll("merge databases", ["merge", self.database, self.other, "-o", self.merged]) == 0:
+            merged = rows_of(self.merged)
+            if set(merged) - {"other", "key 0"} != set(images) - {"key 0"}:
                 self.fault("a merge has other keys")
             for key in range(1, KEYS):
-                self.same("key %d of a merge" % key, images.get(b"key %d" % key), self.registers[key])
+                self.same("key %d of a merge" % key, merged.get("key %d" % key), self.registers[key])
 
     def end(self):
         pass

@@ -10,7 +10,6 @@ import shutil
 import subprocess
 import sys
 import tempfile
-import urllib.parse
 
 from report import SEED, check, equal, skip
 from server import HERE
@@ -31,24 +30,28 @@ def lines():
 
 
 def by_shell(folder, log):
-    """Files of `hll add --by-key`, merged by `hll merge`; and an archive for each hour, merged by key."""
+    """A database of hours and pages, whose days `hll get` merges; and a database for each hour, merged key by key."""
     hll = functools.partial(subprocess.run, cwd=folder, env=dict(os.environ, PYTHONPATH=str(PACKAGE)), check=True)
     command = [sys.executable, "-m", "hll_sketches"]
-    hll([*command, "add", "--by-key", "hours"], input="".join("%s %s\t%s\n" % line for line in log).encode())
-    named = {path: tuple(urllib.parse.unquote(path.stem).split(" ", 1)) for path in (folder / "hours").iterdir()}
-    days, pages = {}, {page for _, page in named.values()}
-    for page in pages:
-        hll([*command, "merge", *(path for path in named if named[path][1] == page), "-o", "day.hll"])
-        days[page] = (folder / "day.hll").read_bytes()
-    for hour in {hour for hour, _, _ in log}:
-        of_hour = "".join("%s\t%s\n" % (page, visitor) for one, page, visitor in log if one == hour)
-        hll([*command, "add", "--archive", hour + ".keys"], input=of_hour.encode())
-    hll([*command, "merge", "--by-key", *folder.glob("*.keys"), "-o", "day.keys"])
+    lines = "".join("%s\t%s\t%s\n" % line for line in log).encode()
+    hll([*command, "add", "--db", "hours.db", "--key", "hour=1,page=2", "--value", "3"], input=lines)
     sys.path.insert(0, str(PACKAGE))
-    from hll_sketches import read_archive
-    archives = {key.decode(): sketch.to_bytes() for key, sketch in read_archive(folder / "day.keys")}
-    equal("archives of hours, merged by key", archives, days)
-    return {key: path.read_bytes() for path, key in named.items()}, days
+    from hll_sketches import Database
+    with Database(folder / "hours.db") as database:
+        hours = {key: sketch.to_bytes() for key, sketch in database.items()}
+    days = {}
+    for page in {page for _, page in hours}:
+        hll([*command, "get", "hours.db", "--where", "page = '%s'" % page, "-o", "day.hll"])
+        days[page] = (folder / "day.hll").read_bytes()
+    names = []
+    for hour in sorted({hour for hour, _, _ in log}):
+        names.append(hour + ".db")
+        of_hour = "".join("%s\t%s\n" % (page, visitor) for one, page, visitor in log if one == hour)
+        hll([*command, "add", "--db", names[-1], "--key", "page=1", "--value", "2"], input=of_hour.encode())
+    hll([*command, "merge", *names, "-o", "day.db"])
+    with Database(folder / "day.db") as database:
+        equal("databases of hours, merged key by key", {page: sketch.to_bytes() for (page,), sketch in database.items()}, days)
+    return hours, days
 
 
 def by_python(log):

@@ -15,20 +15,25 @@ Proved calls of the C library hash and add values, read, merge and write images,
 registers. The counter that holds a sketch between these calls (its memory, waiting values, copies),
 bounds, and estimates of few values are plain C: tested, not proved. This package is tested, too.
 """
-from ._errors import ArgumentError, FilesError, HllError, ImageError, PrecisionError
+from typing import TYPE_CHECKING
+
+from ._errors import ArgumentError, DatabaseError, FilesError, HllError, ImageError, PrecisionError
 from ._library import processor
 from ._values import Value, coupon, coupons
-from .archive import ArchiveError, read_archive, write_archive
 from .merging import merge_files
 from .registers import Registers
 from .sketch import Sketch, fault_of, is_image, is_small
 from .union import SketchUnion, union_of
 
+if TYPE_CHECKING:
+    from .database import Database
+
 __version__ = "0.2.0"
 
 __all__ = [
-    "ArchiveError",
     "ArgumentError",
+    "Database",
+    "DatabaseError",
     "FilesError",
     "HllError",
     "ImageError",
@@ -44,7 +49,14 @@ __all__ = [
     "is_small",
     "merge_files",
     "processor",
-    "read_archive",
     "union_of",
-    "write_archive",
 ]
+
+
+def __getattr__(name: str) -> object:
+    """Loads ``Database``, and with it SQLite, once it is used."""
+    if name == "Database":
+        from .database import Database
+
+        return Database
+    raise AttributeError(f"module {__name__!r} has no attribute {name!r}")

@@ -120,6 +120,27 @@ class PrecisionError(HllError, ValueError):
         return f"{self.place or which} has lg_k {self.lg_k} and not {self.other_lg_k}: {cure}"
 
 
+class DatabaseError(HllError):
+    """A database of sketches can't be used.
+
+    Attributes
+    ----------
+    path : str
+        The file.
+    words : str
+        What is wrong.
+    status : int
+        The status with which a command ends: 1 if the file was read and is rejected, and otherwise 2.
+    """
+
+    def __init__(self, path: str, words: str, status: int = 1) -> None:
+        super().__init__(path, words, status)
+        self.path, self.words, self.status = path, words, status
+
+    def __str__(self) -> str:
+        return f"{shown(self.path)}: {self.words}"
+
+
 class FilesError(HllError, ValueError):
     """Files were rejected, so no union was made.
 

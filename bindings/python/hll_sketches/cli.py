@@ -4,18 +4,21 @@
 from __future__ import annotations
 
 import argparse
+import gc
 import io
 import os
+import re
 import signal
 import sys
 import textwrap
-from typing import Any, Callable, Dict, List, Optional
+from typing import Any, Callable, Dict, List, Optional, Tuple
 
 from . import __version__, commands, processor
+from ._errors import DatabaseError
 from ._names import ESCAPING
 from ._signals import end_at_once
 from .files import REFUSED, STANDARD, UNUSABLE, OutputTrouble, Trouble
-from .lines import COLUMNS, CSV, JSON, LONGEST_LINE, WHOLE, Layout, number_of
+from .lines import COLUMNS, CSV, JSON, LONGEST_LINE, WHOLE, Layout, Part, number_of
 
 _ABOUT = "HyperLogLog sketches in the DataSketches format: make, merge, compare and look at them."
 _NOTES = """\
@@ -68,6 +71,27 @@ def _separator(text: str) -> bytes:
     if not separator or b"\n" in separator:
         raise argparse.ArgumentTypeError(f"a separator has one byte or more, and no LF, not {text!r}")
     return separator
+
+
+_KEY = re.compile(r"(?:([^=\[\],]+)=)?([^=\[\],]+)(?:\[:(\d+)\])?")
+"""A part of a key: NAME, NAME=COLUMN or NAME=COLUMN[:LENGTH]."""
+
+
+def _parts(text: str) -> Tuple[Part, ...]:
+    """A type of argument: the parts of a key."""
+    parts = []
+    for one in text.split(","):
+        found = _KEY.fullmatch(one)
+        if not found:
+            raise argparse.ArgumentTypeError(f"a key is NAME, NAME=COLUMN or NAME=COLUMN[:LENGTH], not {one!r}")
+        name, column, length = found.groups()
+        name = name or (f"column{column}" if column.isdigit() else column)
+        parts.append(Part(name, column, int(length or 0)))
+    names = [part.name.lower() for part in parts]
+    if len(set(names)) < len(names) or {"image", "checksum"} & set(names):
+        words = "the parts of a key have distinct names, and none is image or checksum: NAME=COLUMN gives a name"
+        raise argparse.ArgumentTypeError(words)
+    return tuple(parts)
 
 
 def _picture(text: str) -> str:
@@ -141,8 +165,7 @@ def _merge(parser: argparse.ArgumentParser) -> None:
     parser.add_argument("--jobs", type=_jobs, metavar="N", help="the number of processes (one for each core)")
     help_ = "leave out files that are not images or can't be read, print their names, and go on"
     parser.add_argument("--skip-bad", action="store_true", help=help_)
-    help_ = "merge archives key by key, into an archive (otherwise all their sketches are merged into one)"
-    parser.add_argument("--by-key", action="store_true", help=help_)
+    parser.add_argument("--wait", action="store_true", help="of databases: wait for as long as another process writes")
     _with_plain(parser)
 
 
@@ -153,11 +176,12 @@ def _info(parser: argparse.ArgumentParser) -> None:
 
 
 def _estimate(parser: argparse.ArgumentParser) -> None:
-    _with_files(parser, "+", "a file, an archive, or -")
-    _with_deviations(parser, "print the bounds too, at 1, 2 or 3 standard deviations", None)
-    _with_json(parser)
-    help_ = "print an aligned table with a header and the bounds (at 2 standard deviations)"
-    parser.add_argument("--table", action="store_true", help=help_)
+    _with_folders(parser)
+    help_ = "of a database: merge the sketches of keys that have these in common: columns, or NAME=SQL, such as " \
+        "week=week(day); '' merges all"
+    parser.add_argument("--by", metavar="KEY,..", help=help_)
+    _with_where(parser)
+    _with_shown(parser)
 
 
 def _check(parser: argparse.ArgumentParser) -> None:
@@ -189,7 +213,11 @@ def _diff(parser: argparse.ArgumentParser) -> None:
 
 
 def _plot(parser: argparse.ArgumentParser) -> None:
-    parser.add_argument("file", metavar="FILE", help="a file, or -")
+    parser.add_argument("file", metavar="FILE", help="a file, or -, or a database of keys")
+    help_ = "of a database: merge the sketches of keys that have these in common, as in hll estimate"
+    parser.add_argument("--by", metavar="KEY,..", help=help_)
+    _with_where(parser)
+    parser.add_argument("--top", type=_most, metavar="N", help="of a database: draw the N largest, the largest first")
     help_ = "the picture to write, a file .svg or .png (PNG needs the Python package cairosvg); - is " \
         "standard output, for an SVG"
     parser.add_argument("-o", "--output", type=_picture, metavar="OUT", required=True, help=help_)
@@ -205,30 +233,6 @@ def _new(parser: argparse.ArgumentParser) -> None:
     _with_json(parser)
 
 
-_BY_KEY: Dict[str, Any] = {
-    "lg_k": 12, "width": 8, "key": "1", "memory": 1 << 30, "sorted": False,
-}
-"""The options that go with ``--by-key``, and their defaults."""
-
-
-def _with_keys(parser: argparse.ArgumentParser) -> None:
-    help_ = "count lines by key: read a key and a value from each, and add the value to the sketch of " \
-        "its key, a file of DIRECTORY. Files that don't exist are made"
-    parser.add_argument("--by-key", metavar="DIRECTORY", help=help_)
-    help_ = "count lines by key, and keep all sketches in one file, an archive. It is made if it doesn't exist"
-    parser.add_argument("--archive", metavar="FILE", help=help_)
-    group = parser.add_argument_group("with --by-key or --archive")
-    help_ = "the column of the key: its number, or with --csv its name in the header (1)"
-    group.add_argument("--key", metavar="COLUMN", help=help_)
-    help_ = "the most bytes of memory for sketches, also with K, M or G (1G)"
-    group.add_argument("--memory", type=_memory, metavar="BYTES", help=help_)
-    help_ = "lines are sorted by key: write each sketch once its key has ended, and so use little memory"
-    group.add_argument("--sorted", action="store_true", default=None, help=help_)
-    group.add_argument("--lg-k", type=_lg_k, metavar="K", help="the lg_k of new keys (12)")
-    help_ = "bits of a register of new keys: 4, 6 or 8 (8)"
-    group.add_argument("--width", type=int, choices=(4, 6, 8), help=help_)
-
-
 def _with_input(parser: argparse.ArgumentParser) -> None:
     """Adds the options that say how lines are read."""
     group = parser.add_argument_group("how lines are read")
@@ -242,33 +246,98 @@ def _with_input(parser: argparse.ArgumentParser) -> None:
     group.add_argument("--value", metavar="COLUMN", help=help_)
     help_ = "what is between two columns (TAB, or with --csv a comma); \\t is TAB"
     group.add_argument("--separator", type=_separator, metavar="TEXT", help=help_)
-    help_ = "leave out lines with this value; may be repeated. With --csv an empty field is always missing, and " \
-        "with --jsonl null is"
+    help_ = "leave out lines with this value; may be repeated. An empty column is missing, too, and null with --jsonl"
     group.add_argument("--missing", action="append", default=[], metavar="STRING", help=help_)
+    group.add_argument("--keep-empty", action="store_true", help="an empty column is a value, and not missing")
+    group.add_argument("--int", action="store_true", help="a value is an integer in decimal, as in Python and SQL, and not a string")
     help_ = "leave out lines that can't be counted, print their number, and go on"
     group.add_argument("--skip-bad", action="store_true", help=help_)
-    help_ = "what a value counts as: a string (default), or an integer in decimal, as in Python and SQL"
-    group.add_argument("--as", dest="kind", choices=("text", "int"), default="text", help=help_)
+    help_ = "leave out lines in whose key a part is empty"
+    group.add_argument("--skip-empty-key", action="store_true", help=help_)
     help_ = "count lines as they are, also those of files that are compressed or not text"
     group.add_argument("--raw", action="store_true", help=help_)
     help_ = f"the most bytes of a line, without its LF ({LONGEST_LINE:,})"
     group.add_argument("--longest-line", type=_bytes, metavar="BYTES", default=LONGEST_LINE, help=help_)
+    help_ = "the most bytes of memory for the sketches of keys, also with K, M or G (1G); the rest is on the disk"
+    group.add_argument("--memory", type=_memory, metavar="BYTES", default=1 << 30, help=help_)
+    help_ = "print how many lines, keys and seconds it were"
+    group.add_argument("-v", "--verbose", action="store_true", help=help_)
 
 
 def _add(parser: argparse.ArgumentParser) -> None:
-    help_ = "the file of the sketch, and then files of lines, also compressed by gzip, xz or bzip2 (standard input)"
+    help_ = "the file of the sketch (not with --db), and then files of lines, also compressed by gzip, xz or bzip2 " \
+        "(standard input)"
     parser.add_argument("inputs", metavar="FILE", nargs="*", help=help_)
+    help_ = "add to the sketches of keys in a database, which is made if it doesn't exist"
+    parser.add_argument("--db", metavar="DB", help=help_)
+    help_ = "the columns of the key: NAME, NAME=COLUMN, or NAME=COLUMN[:LENGTH], which takes the first characters " \
+        "(the columns that the database has)"
+    parser.add_argument("--key", type=_parts, metavar="KEY,..", help=help_)
+    _with_lg_k(parser, "of a new database, or of a new sketch with --create (12)")
+    _with_width(parser)
+    parser.add_argument("--create", action="store_true", help="make the file of the sketch if it doesn't exist")
     _with_output(parser, help="the file to write (FILE itself); - is standard output")
-    help_ = "wait for as long as another process holds the lock of FILE, and not ten seconds"
+    help_ = "wait for as long as another process writes"
     parser.add_argument("--wait", action="store_true", help=help_)
     _with_plain(parser)
     _with_input(parser)
+
+
+def _count(parser: argparse.ArgumentParser) -> None:
+    help_ = "files of lines, also compressed by gzip, xz or bzip2 (standard input)"
+    parser.add_argument("inputs", metavar="FILE", nargs="*", help=help_)
+    help_ = "count for each key: NAME, NAME=COLUMN, or NAME=COLUMN[:LENGTH], which takes the first characters"
+    parser.add_argument("--by", dest="key", type=_parts, metavar="KEY,..", help=help_)
+    _with_lg_k(parser, "the base-2 logarithm of the number of registers, 4 to 21 (12)", default=12)
+    _with_shown(parser)
+    _with_input(parser)
+
+
+def _with_shown(parser: argparse.ArgumentParser) -> None:
+    """Adds the options that say which estimates are printed, and how."""
+    parser.add_argument("--top", type=_most, metavar="N", help="print the N largest, the largest first")
+    _with_deviations(parser, "print the bounds too, at 1, 2 or 3 standard deviations", None)
+    parser.add_argument("--bounds", action="store_true", help="print the bounds too, at 2 standard deviations")
+    _with_json(parser)
+    help_ = "print an aligned table with a header and the bounds (at 2 standard deviations)"
+    parser.add_argument("--table", action="store_true", help=help_)
+
+
+def _with_keys(parser: argparse.ArgumentParser, needed: bool = False) -> None:
+    """Adds a database, and the option that says which keys."""
+    parser.add_argument("db", metavar="DB", help="a database of keys")
+    _with_where(parser, needed)
+
+
+def _with_where(parser: argparse.ArgumentParser, needed: bool = False) -> None:
+    help_ = "only keys for which this expression of SQL is true, such as \"day >= '2026-11-01'\""
+    parser.add_argument("--where", metavar="SQL", required=needed, help=help_)
+
+
+def _get(parser: argparse.ArgumentParser) -> None:
     _with_keys(parser)
+    _with_force(parser)
+    parser.add_argument("-o", "--output", metavar="OUT", required=True, help="the file to write; - is standard output")
+
+
+def _drop(parser: argparse.ArgumentParser) -> None:
+    _with_keys(parser, True)
+    parser.add_argument("--wait", action="store_true", help="wait for as long as another process writes")
+
+
+def _dump(parser: argparse.ArgumentParser) -> None:
+    _with_keys(parser)
+
+
+def _load(parser: argparse.ArgumentParser) -> None:
+    parser.add_argument("db", metavar="DB", help="a database of keys, which is made if it doesn't exist")
+    parser.add_argument("--wait", action="store_true", help="wait for as long as another process writes")
 
 
 _COMMANDS = (
     ("new", _new, "make an empty sketch", "hll new day.hll --lg-k 14"),
     ("add", _add, "add lines of files or of standard input, each a value", "hll add day.hll --value 2 log.gz"),
+    ("count", _count, "print the number of distinct lines, or values of a column", "hll count --csv --value user *.csv.gz"),
     ("estimate", _estimate, "print the estimated number of distinct values", "hll estimate *.hll"),
     ("merge", _merge, "merge any number of files", "hll merge days -o year.hll"),
     ("info", _info, "print lg_k, width, stage, estimate and more of each file; compare two", "hll info year.hll"),
@@ -277,27 +346,36 @@ _COMMANDS = (
     ("fold", _fold, "reduce lg_k: fewer registers, and a larger error", "hll fold a.hll --lg-k 10 -o b.hll"),
     ("convert", _convert, "change the width of a sketch", "hll convert a.hll --width 4 -o b.hll"),
     ("plot", _plot, "draw how many registers have each value, as SVG or PNG", "hll plot year.hll -o year.svg"),
+    ("get", _get, "write the sketch of some keys of a database", "hll get pages.db --where \"page = '/'\" -o home.hll"),
+    ("drop", _drop, "remove keys of a database", "hll drop pages.db --where \"day < '2026-01-01'\""),
+    ("dump", _dump, "print a database as lines of JSON, the same for equal databases", "hll dump pages.db > pages.jsonl"),
+    ("load", _load, "merge the lines that dump prints into a database", "hll load copy.db < pages.jsonl"),
 )
 _MORE = {
-    "merge": "Each rejected file is named, and then nothing is written, unless --skip-bad is given. "
+    "merge": "Databases are merged key by key, into a new one, or into one of them. Of sketches, each rejected file is named, and then nothing is written, unless --skip-bad is given. "
     "Files of different lg_k are merged only with --lg-k. The width is that of the files, or 8 if "
     "they differ.",
     "info": "Several files are printed as a table. With two files, it also says whether they agree, prints "
     "the estimate of their union, and says why there is none of their intersection.",
-    "estimate": "Lines have columns between TABs. With several files, the name of the file follows the "
-    "numbers, and then the key of an archive.",
-    "check": "Nothing is printed for a file that is a sketch. An image has no checksum, so a flipped "
+    "estimate": "Lines have columns between TABs. The name of the file follows the numbers, unless standard input is the "
+    "only one. A database of keys is named alone: each key has a line, and its parts follow the numbers.",
+    "check": "Nothing is printed for a file that is a sketch, or a database that is in order. An image has no checksum, so a flipped "
     "bit can give another sketch, which is not noticed.",
-    "fold": "The result is the sketch that the same values make with that lg_k.",
+    "fold": "Of a database, OUT is a new one. The result is the sketch that the same values make with that lg_k.",
     "diff": "Exit status: 0 if they agree, once folded to the smaller lg_k; 1 if they differ; 2 for an error.",
-    "plot": "The picture is a histogram, with the shape that the theory expects for the estimate.",
+    "convert": "Of a database, OUT is a new one.",
+    "plot": "The picture is a histogram, with the shape that the theory expects for the estimate; of a database, a bar for "
+    "each key, with its bounds.",
     "new": "Add values to it with `hll add`.",
     "add": "A line counts as a string: its bytes without the LF, including a CR. An empty line is a "
-    "string too, unless --missing '' is given. Inputs are read to their ends before FILE is touched: if one of them "
-    "is cut, damaged or not text, nothing is added. The line 7 is a string and not the integer 7, unless --as int is given. If another process "
-    "holds the lock of FILE for ten seconds, nothing is added, unless --wait is given. With --by-key, a "
-    "line is a key, a TAB and a value, and each key has a file of its own: KEY.hll, with bytes other than "
-    "letters, digits, '.', '_' and '-' written as %XX. With --archive, all keys are in one file.",
+    "string too, unless --missing '' is given. Inputs are read to their ends before anything is written: if one of "
+    "them is cut, damaged or not text, nothing is added. The line 7 is a string and not the integer 7, unless --int is "
+    "given. With --db, each key has a sketch of its own in a database. An empty part of a key is a part like "
+    "others. Without --wait, nothing is added if another process holds the lock of FILE for ten seconds, or writes DB "
+    "for a minute.",
+    "count": "It is exact for few values, and otherwise an estimate. A line counts as in hll add.",
+    "get": "The sketches of all these keys are merged.",
+    "load": "The lines are read from standard input.",
 }
 
 
@@ -353,60 +431,66 @@ def _completed(parser: argparse.ArgumentParser) -> None:
 
 def _layout_of(parser: argparse.ArgumentParser, options: argparse.Namespace) -> Layout:
     """Returns how lines are read, or reports options that can't be combined."""
-    form = CSV if options.csv else JSON if options.jsonl else WHOLE if options.value is None else COLUMNS
-    if options.value is None and (form != WHOLE or options.tsv or options.separator is not None):
+    parts, value = options.key or (), options.value
+    form = CSV if options.csv else JSON if options.jsonl else COLUMNS if parts or value is not None else WHOLE
+    if value is None and (parts or form != WHOLE or options.tsv or options.separator is not None):
         parser.error("--value COLUMN says what is counted")
-    if form == COLUMNS and number_of(options.value) is None:
-        parser.error(f"argument --value: without --csv, a column is a number from 1, not {options.value!r}")
+    if form == COLUMNS:
+        for column in [part.column for part in parts] + [value]:
+            if number_of(column) is None:
+                parser.error(f"without --csv or --jsonl, a column is a number from 1, not {column!r}")
     separator = options.separator or (b"," if form == CSV else b"\t")
     if form == CSV and (len(separator) > 1 or separator > b"\x7f" or separator in b'"\r'):
         parser.error("with --csv a separator is one ASCII character, and neither a quote nor a CR")
-    missing = {os.fsencode(word) for word in options.missing} | ({b""} if form == CSV else set())
+    missing = {os.fsencode(word) for word in options.missing}
+    if form != WHOLE and not options.keep_empty:
+        missing.add(b"")
     return Layout(
-        form, options.value or "1", (), separator, frozenset(missing), options.kind == "int", options.skip_bad,
-        is_raw=options.raw, longest=options.longest_line,
+        form, value or "1", parts, separator, frozenset(missing), options.int, options.skip_bad, options.skip_empty_key,
+        options.raw, options.longest_line,
     )
+
+
+def _check_count(parser: argparse.ArgumentParser, options: argparse.Namespace) -> None:
+    """Reads the options of lines."""
+    options.layout = _layout_of(parser, options)
 
 
 def _check_add(parser: argparse.ArgumentParser, options: argparse.Namespace) -> None:
     """Reports arguments of ``add`` that can't be combined."""
-    if options.by_key is not None or options.archive is not None:
-        _check_by_key(parser, options)
-        return
-    if not options.inputs:
-        parser.error("add needs FILE, --by-key DIRECTORY or --archive FILE")
-    options.file, *options.inputs = options.inputs
-    if options.file == STANDARD:
-        parser.error("FILE is replaced, so it can't be -")
-    for name in _BY_KEY:
-        if getattr(options, name) is not None:
-            parser.error(f"--{name.replace('_', '-')} goes with --by-key or --archive")
+    if options.db is not None:
+        _check_db(parser, options)
+    elif options.key is not None:
+        parser.error("--key goes with --db")
+    elif not options.inputs:
+        parser.error("add needs FILE, or --db DB")
+    else:
+        options.file, *options.inputs = options.inputs
+        if options.file == STANDARD:
+            parser.error("FILE is replaced, so it can't be -")
+        if options.create and options.output is not None:
+            parser.error("--create and -o don't go together")
+        if not options.create and (options.lg_k or options.width):
+            parser.error("--lg-k and --width go with --db or --create")
     options.layout = _layout_of(parser, options)
 
 
-def _check_by_key(parser: argparse.ArgumentParser, options: argparse.Namespace) -> None:
-    """Reports arguments of ``add`` with keys that can't be combined, and sets defaults."""
-    from .rows import Layout as Rows
+def _check_db(parser: argparse.ArgumentParser, options: argparse.Namespace) -> None:
+    """Reports arguments of ``add --db`` that can't be combined."""
+    for name in ("output", "create", "plain", "force"):
+        if getattr(options, name):
+            parser.error(f"--{name} and --db don't go together")
+    if options.db == STANDARD:
+        parser.error("a database is a file, and can't be -")
+    if options.key is None:
+        from . import keyed
 
-    which = "--by-key" if options.archive is None else "--archive"
-    other = options.by_key if options.archive is not None else None
-    for name, given in (("FILE", options.inputs or None), ("-o", options.output), ("--by-key", other)):
-        if given is not None:
-            parser.error(f"{name} and {which} don't go together")
-    if options.archive == STANDARD:
-        parser.error("an archive is a file, and can't be -")
-    for name, default in _BY_KEY.items():
-        if getattr(options, name) is None:
-            setattr(options, name, default)
-    separator = options.separator or (b"," if options.csv else b"\t")
-    value = options.value or "2"
-    if not options.csv:
-        for name, column in (("key", options.key), ("value", value)):
-            if number_of(column) is None:
-                parser.error(f"argument --{name}: without --csv, a column is a number from 1, not {column!r}")
-    elif len(separator) > 1 or separator > b"\x7f" or separator in b'"\r':
-        parser.error("with --csv a separator is one ASCII character, and neither a quote nor a CR")
-    options.layout = Rows(options.key, value, separator, options.csv)
+        options.key = keyed.parts_of(options.db)
+    if options.key is None:
+        parser.error("a new database needs --key")
+
+
+_CHECKS: Dict[str, Callable[[argparse.ArgumentParser, argparse.Namespace], None]] = {"add": _check_add, "count": _check_count}
 
 
 def _parsed(parser: argparse.ArgumentParser, arguments: Optional[List[str]]) -> argparse.Namespace:
@@ -427,8 +511,8 @@ def _chosen(parser: argparse.ArgumentParser, arguments: Optional[List[str]]) -> 
     options = _parsed(parser, arguments)
     if getattr(options, "json", False) and getattr(options, "output", None) == STANDARD:
         parser.error("--json and an image on standard output don't go together")
-    if options.command == "add":
-        _check_add(parser, options)
+    if options.command in _CHECKS:
+        _CHECKS[options.command](parser, options)
     if getattr(options, "table", False) and options.json:
         parser.error("--table and --json don't go together")
     if getattr(options, "null", False) and options.files_from is None:
@@ -454,6 +538,7 @@ def _held_open() -> None:
 def _settled() -> None:
     """Sets up streams and signals as other commands do."""
     end_at_once()
+    gc.disable()        # no command makes cycles of much memory, and lines are very many objects
     _held_open()
     for stream in (sys.stdout, sys.stderr):
         if isinstance(stream, io.TextIOWrapper):
@@ -490,7 +575,7 @@ def _carried_out(options: argparse.Namespace) -> int:
         return call(options)
     except OutputTrouble:
         raise
-    except Trouble as trouble:
+    except (Trouble, DatabaseError) as trouble:
         commands.say(trouble)
         return trouble.status
     except MemoryError:

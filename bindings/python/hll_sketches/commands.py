@@ -7,26 +7,22 @@ import math
 import os
 import struct
 import sys
+import time
 from argparse import Namespace
-from contextlib import contextmanager, suppress
-from functools import partial
-from typing import TYPE_CHECKING, Any, BinaryIO, Callable, Dict, Iterable, Iterator, List
-from typing import Optional, Tuple, Union
+from contextlib import suppress
+from typing import Any, Callable, Dict, Iterator, List, Optional, Tuple
 
 from . import _library, counting
 from ._errors import ArgumentError
 from ._names import shown
-from .files import REFUSED, STANDARD, UNUSABLE, OutputTrouble, Trouble, bytes_of_file, check_output
-from .files import image_at, image_of_file, image_trouble, locked, of_bytes, of_file, write_file
+from .files import STANDARD, UNUSABLE, OutputTrouble, Trouble, bytes_of_file, check_output
+from .files import check_lg_k, image_of_file, image_trouble, is_database, is_nothing, locked, of_bytes
+from .files import of_file, touch, write_file
 from .finding import Tell, found, names_in
-from .layout import STAGES, estimator_fields_of, flags_of, registers_of, size_of
-from .lines import LineError, Reader
-from .progress import Bar, InputBar
+from .layout import DATABASE, STAGES, estimator_fields_of, flags_of, registers_of, size_of
+from .lines import Reader
+from .progress import Bar
 from .tables import aligned
-
-if TYPE_CHECKING:
-    from .archive import Archive
-    from .by_key import Counters, Directory
 
 OK, DIFFER = 0, 1
 
@@ -248,56 +244,52 @@ def info(options: Namespace) -> int:
     return status
 
 
-def _estimates_of(options: Namespace, name: str) -> Iterator[Record]:
-    """Yields the estimate of an image, or those of the images of an archive."""
-    from .archive import entries_of_file, is_archive, name_of_entry
-
-    def facts_of(image: bytes) -> Record:
-        facts = summary(image, options.deviations or 2)
-        return {key: facts[key] for key in ("estimate", "lower", "upper", "deviations")}
-
-    if not is_archive(name):
-        yield {"file": name, **of_file(name, facts_of)}
-        return
-    for key, image in entries_of_file(name):
-        facts = of_bytes(name_of_entry(name, key), image, facts_of)
-        yield {"file": name, "key": os.fsdecode(key), **facts}
-
-
-def _put_estimates(records: List[Record]) -> None:
-    """Prints a table of estimates."""
-    header = ["estimate", "lower", "upper", "file"]
-    if any("key" in record for record in records):
-        header.append("key")
-    numbers = header[:3]
-    rows = [
-        [*(rounded(one[key]) for key in numbers), *(shown(one[key]) if key in one else "" for key in header[3:])]
-        for one in records
-    ]
-    for line in aligned(header, rows, numbers):
-        put_line(line)
-
-
 def estimate(options: Namespace) -> int:
-    """Prints the estimates of images, and of the images of archives."""
+    """Prints the estimates of images, or those of a database."""
+    if any(map(is_database, options.files)):
+        from . import keyed
+
+        if len(options.files) > 1:
+            raise Trouble(options.files[0], "a database of keys is estimated alone", UNUSABLE)
+        return keyed.estimate(options)
+    for option in ("by", "where", "top"):
+        if getattr(options, option) is not None:
+            name = options.files[0] if options.files else "estimate"
+            raise Trouble(name, f"it is no database of keys, which --{option} is for", UNUSABLE)
     records: List[Record] = []
-    asked = ["estimate"] if options.deviations is None else ["estimate", "lower", "upper"]
+    troubles: List[Trouble] = []
+    deviations = options.deviations or (2 if options.bounds else None)
+    asked = ["estimate"] if deviations is None else ["estimate", "lower", "upper"]
+
+    def refuse(trouble: Trouble) -> None:
+        say(trouble)
+        troubles.append(trouble)
+
+    names = list(named_files(options, refuse))
 
     def one(name: str) -> None:
-        for record in _estimates_of(options, name):
-            if options.json or options.table:
-                records.append(record)
-                continue
-            numbers = [plain_number(record[key]) for key in asked]
-            names = [shown(record[key]) for key in ("file", "key") if key in record]
-            put_line("\t".join([*numbers, *(names[1:] if len(options.files) == 1 else names)]))
+        facts = of_file(name, lambda image: summary(image, deviations or 2))
+        record: Record = {"file": name, **{key: facts[key] for key in ("estimate", "lower", "upper", "deviations")}}
+        if options.json or options.table:
+            records.append(record)
+            return
+        numbers = [plain_number(record[key]) for key in asked]
+        put_line("\t".join(numbers if names == [STANDARD] else [*numbers, shown(name)]))
 
-    status = each(options.files, one, options.json or options.table or not _is_seen())
+    status = each(names, one, options.json or options.table or not _is_seen())
     if options.json:
         show(records)
     elif options.table and records:
         _put_estimates(records)
-    return status
+    return max(status, _worst(troubles, OK))
+
+
+def _put_estimates(records: List[Record]) -> None:
+    """Prints a table of estimates."""
+    numbers = ["estimate", "lower", "upper"]
+    rows = [[*(rounded(one[key]) for key in numbers), shown(one["file"])] for one in records]
+    for line in aligned([*numbers, "file"], rows, numbers):
+        put_line(line)
 
 
 # ---- files and directories
@@ -313,24 +305,18 @@ def named_files(options: Namespace, refuse: Tell) -> Iterator[str]:
 
 
 def _faults_in(name: str) -> Iterator[Tuple[str, Trouble]]:
-    """Yields the reason and the error of a file that is not an image; of an archive, those of each image in
-    it that is none, and of the archive itself."""
-    from .archive import MAGIC, entries_of_file, name_of_entry
-
+    """Yields the reason and the error of a file that is not an image, or those of what is wrong in a database."""
     data = bytes_of_file(name)
-    images: Iterable[Tuple[str, bytes]] = [(name, data)]
-    if data.startswith(MAGIC):
-        images = ((name_of_entry(name, key), image) for key, image in entries_of_file(name))
-    try:
-        for which, image in images:
-            status = _library.check(image)
-            if status != _library.OK:
-                reason = _library.WORDS[status]
-                yield reason, image_trouble(which, reason, image)
-    except Trouble as trouble:
-        if trouble.status != REFUSED:
-            raise
-        yield trouble.words, trouble
+    if data.startswith(DATABASE) and name != STANDARD:
+        from . import keyed
+
+        for reason, words in keyed.faults_of(name):
+            yield reason, Trouble(name, words)
+        return
+    status = _library.check(data)
+    if status != _library.OK:
+        reason = _library.WORDS[status]
+        yield reason, image_trouble(name, reason, data)
 
 
 def check(options: Namespace) -> int:
@@ -367,9 +353,15 @@ def merge(options: Namespace) -> int:
     """Merges any number of files."""
     from .merging import processors, union_of_files
 
+    if any(map(is_database, options.files)):
+        from . import keyed
+
+        for option in ("lg_k", "skip_bad", "plain", "files_from"):
+            if getattr(options, option):
+                words = f"it is a database of keys, and --{option.replace('_', '-')} doesn't go with databases"
+                raise Trouble(next(filter(is_database, options.files)), words, UNUSABLE)
+        return keyed.merge(options)
     check_output(options.output, options.force)
-    if options.by_key:
-        return _merge_by_key(options)
     left_out: List[Trouble] = []
 
     def refuse(trouble: Trouble) -> None:
@@ -398,50 +390,15 @@ def _skipped(left_out: List[Trouble]) -> List[Record]:
     return [{"file": trouble.name, "reason": trouble.words} for trouble in left_out]
 
 
-def _merge_by_key(options: Namespace) -> int:
-    """Merges the sketches of each key of any number of archives. Each archive is read twice, and is left out
-    if it is not in order."""
-    from .archive import entries_of_file, pieces, union_of_archives
-
-    left_out: List[Trouble] = []
-    names: List[str] = []
-    keys = entries = 0
-
-    def refuse(trouble: Trouble) -> None:
-        say(f"{trouble} (left out)" if options.skip_bad else trouble)
-        left_out.append(trouble)
-
-    def written(more: Callable[[int], None]) -> Iterator[Tuple[bytes, bytes]]:
-        nonlocal keys
-        merged = union_of_archives(names, options.lg_k or 0, options.width, more)
-        for keys, (key, image) in enumerate(merged, 1):
-            yield key, finished(image, options.plain)
-
-    with Bar("file") as bar:
-        for name in bar.counted(named_files(options, refuse)):
-            try:
-                entries += sum(1 for _ in entries_of_file(name))
-                names.append(name)
-            except Trouble as trouble:
-                refuse(trouble)
-            bar.more(1)
-    if left_out and not options.skip_bad:
-        return _worst(left_out, OK)
-    if not names:
-        raise Trouble("merge", "no archive is left to merge", _worst(left_out, UNUSABLE))
-    with Bar("image", entries) as bar:
-        write_file(options.output, lambda: pieces(written(bar.more)))
-    if options.json:
-        facts = {"keys": keys, "merged": len(names), "left_out": _skipped(left_out)}
-        show({"output": options.output, **facts})
-    return OK
-
-
 # ---- one image from another
 
 
 def fold(options: Namespace) -> int:
-    """Writes an image at a smaller ``lg_k``."""
+    """Writes an image, or the images of a database, at a smaller ``lg_k``."""
+    if is_database(options.file):
+        from . import keyed
+
+        return keyed.changed(options, lambda image: _library.fold(image, options.lg_k), lg_k=options.lg_k)
 
     def folded(image: bytes) -> bytes:
         try:
@@ -454,7 +411,11 @@ def fold(options: Namespace) -> int:
 
 
 def convert(options: Namespace) -> int:
-    """Writes an image at a width."""
+    """Writes an image, or the images of a database, at a width."""
+    if is_database(options.file):
+        from . import keyed
+
+        return keyed.changed(options, lambda image: _library.convert(image, options.width), width=options.width)
     image = of_file(options.file, lambda image: _library.convert(image, options.width))
     return put(options, finished(image, options.plain))
 
@@ -467,103 +428,82 @@ def new(options: Namespace) -> int:
     return put(options, _library.new(options.lg_k, options.width))
 
 
+def count(options: Namespace) -> int:
+    """Prints the estimated number of distinct values of inputs."""
+    from . import keyed
+
+    return keyed.count(options, say)
+
+
+def get(options: Namespace) -> int:
+    """Writes the union of the sketches of some keys."""
+    from . import keyed
+
+    return keyed.get(options)
+
+
+def drop(options: Namespace) -> int:
+    """Removes keys of a database."""
+    from . import keyed
+
+    return keyed.drop(options, say)
+
+
+def dump(options: Namespace) -> int:
+    """Prints a database as lines of JSON."""
+    from . import keyed
+
+    return keyed.dump(options)
+
+
+def load(options: Namespace) -> int:
+    """Merges lines of JSON into a database."""
+    from . import keyed
+
+    return keyed.load(options)
+
+
 def add(options: Namespace) -> int:
-    """Adds the lines of inputs to a sketch.
+    """Adds the lines of inputs to a sketch, or to the sketches of a database.
 
     The lines are read first. Then the file is locked, read, and replaced by its union with the
     sketch of the lines. So several ``add`` may run on one file at the same time without losing
     values, and none waits for the input of another. It waits for the lock for ten seconds, or with
     ``--wait`` for as long as another process holds it.
     """
-    if options.by_key is not None or options.archive is not None:
-        return _add_by_key(options)
-    if not os.path.lexists(options.file):
-        raise Trouble(options.file, "No such file or directory (hll new makes it)", UNUSABLE)
-    lg_k = _library.lg_k_in(image_of_file(options.file))
+    if options.db is not None:
+        from . import keyed
+
+        return keyed.add(options, say)
+    begun, inputs = time.monotonic(), options.inputs or [STANDARD]
+    lg_k = _library.lg_k_in(_image_before(options))
     options.output = options.output or options.file
     check_output(options.output, options.force)
     reader = Reader(options.layout)
-    lines = counting.image_of(reader, options.inputs or [STANDARD], lg_k)
-    for words in reader.sums.said():
-        say(words)
+    lines = counting.image_of(reader, inputs, lg_k)
+    counting.say_sums(reader, len(inputs), begun, options.verbose, say)
+    if options.create:
+        touch(options.file)
     with locked(options.file, say if options.wait else None):
-        image = image_at(options.file, lg_k)
+        image = check_lg_k(options.file, _image_before(options), lg_k)
         if reader.sums.counted:
             image = _library.merge(lg_k, _library.width_in(image), image, lines)
         sums = {"lines": reader.sums.counted, "left_out": reader.sums.left_out}
         return put(options, finished(image, options.plain), **sums)
 
 
-@contextmanager
-def _standard_input() -> Iterator[BinaryIO]:
-    """Opens standard input, and reports its errors."""
-    try:
-        with open(os.dup(0), "rb") as stream:
-            yield stream
-    except LineError as error:
-        raise Trouble("standard input", f"line {error.number:,} {error.words}") from None
-    except OSError as error:
-        raise Trouble("standard input", error.strerror or str(error), UNUSABLE) from None
-
-
-def _add_by_key(options: Namespace) -> int:
-    """Adds the values of standard input to the sketches of their keys, in a directory or an archive."""
-    from .by_key import Counters
-
-    store = _store_of(options)
-    counters = Counters(store.begin, options.kind == "int", options.memory)
-    try:
-        _count_by_key(options, counters, store)
-        if counters.ending_in_cr:
-            say(f"standard input: {counters.ending_in_cr:,} lines end in a CR, which counts as a part of them")
-        with Bar("key", len(counters.images)) as bar:
-            store.write_all(counters, sorted(counters.images), bar.more)
-    except Trouble as trouble:
-        if not store.written:
-            raise
-        done = "1 file is" if store.written == 1 else f"{store.written:,} files are"
-        words = f"{trouble.words} ({done} written: add all lines again, and each counts once)"
-        raise Trouble(trouble.name, words, trouble.status) from None
-    if options.json:
-        show({"output": store.path, "lines": counters.count, "keys": store.written, "new": store.made})
-    return OK
-
-
-def _store_of(options: Namespace) -> Union[Directory, Archive]:
-    """Returns where the sketches of keys are kept."""
-    from .archive import Archive
-    from .by_key import Directory
-
-    finish = partial(finished, plain=options.plain)
-    more = options.lg_k, options.width, finish, options.force, say if options.wait else None
-    if options.archive is not None:
-        return Archive(options.archive, *more)
-    return Directory(options.by_key, *more)
-
-
-def _count_by_key(
-    options: Namespace, counters: Counters, store: Union[Directory, Archive]
-) -> None:
-    """Counts the values of standard input. If lines are sorted by key, this moves each key but the last one
-    out of memory, once lines of another key follow."""
-    from .by_key import FullError
-    from .rows import RowError
-
-    try:
-        with _standard_input() as stream, InputBar([STANDARD]) as bar:
-            for batch in options.layout.batches(stream, options.longest_line):
-                counters.add(batch)
-                if options.sorted and batch.pairs:
-                    last = batch.pairs[-1][0]
-                    store.flush(counters, [key for key in counters.images if key != last])
-                bar.counted_lines(len(batch.pairs))
-    except RowError as error:
-        raise Trouble("standard input", f"line {error.number:,} {error.words}") from None
-    except FullError as error:
-        words = f"after line {error.number:,} the sketches of {error.keys:,} keys need more than " \
-            f"{options.memory:,} bytes"
-        cure = "" if options.sorted else ", and --sorted needs one sketch at a time"
-        raise Trouble("standard input", f"{words} (--memory allows more{cure})") from None
+def _image_before(options: Namespace) -> bytes:
+    """Returns the image to which lines are added. With ``--create``, a file that doesn't exist or is empty is an
+    empty sketch."""
+    if options.create and is_nothing(options.file):
+        return _library.new(options.lg_k or 12, options.width or 8)
+    if not os.path.lexists(options.file):
+        raise Trouble(options.file, "No such file or directory (--create makes it)", UNUSABLE)
+    image = image_of_file(options.file)
+    for what, is_, wanted in (("lg_k", _library.lg_k_in(image), options.lg_k), ("width", _library.width_in(image), options.width)):
+        if wanted not in (None, is_):
+            raise Trouble(options.file, f"it has {what} {is_}, and not {wanted}")
+    return image
 
 
 # ---- comparing
@@ -602,13 +542,21 @@ def diff(options: Namespace) -> int:
 
 
 def plot(options: Namespace) -> int:
-    """Draws the histogram of the registers, with the histogram that the estimate predicts."""
+    """Draws the histogram of the registers, with the histogram that the estimate predicts; of a database, the estimates
+    of its keys with their bounds."""
     from .plot import histogram_svg, png_of
 
     check_output(options.output, options.force)
-    image = image_of_file(options.file)
-    name = "standard input" if options.file == STANDARD else os.path.basename(options.file)
-    data = histogram_svg(image, options.title or name).encode("utf-8")
+    title = options.title or ("standard input" if options.file == STANDARD else os.path.basename(options.file))
+    if is_database(options.file):
+        from . import keyed
+
+        data = keyed.picture(options, title).encode("utf-8")
+    else:
+        for option in ("by", "where", "top"):
+            if getattr(options, option) is not None:
+                raise Trouble(options.file, f"it is no database of keys, which --{option} is for", UNUSABLE)
+        data = histogram_svg(image_of_file(options.file), title).encode("utf-8")
     if options.output.lower().endswith(".png"):
         try:
             data = png_of(data)

@@ -2,7 +2,6 @@
 """Reading and writing files of images."""
 from __future__ import annotations
 
-import ctypes
 import errno
 import os
 import re
@@ -10,15 +9,15 @@ import stat
 import sys
 import time
 from codecs import getincrementaldecoder
-from contextlib import ExitStack, closing, contextmanager, suppress
+from contextlib import contextmanager, suppress
 from functools import partial
-from typing import Callable, Iterable, Iterator, List, NamedTuple, Optional, Sequence, TypeVar, Union
+from typing import Callable, Iterator, List, Optional, TypeVar
 
 from . import _library
 from ._errors import ImageError, explained
 from ._names import shown
 from ._signals import ENDING, held_back
-from .layout import ARCHIVE, size_of
+from .layout import DATABASE, size_of
 
 if sys.platform != "win32":
     import fcntl
@@ -38,9 +37,10 @@ class FoundName(str):
 PIECE = 1 << 16
 MORE = _library.HEADER
 """How many bytes after an image are read: enough to say whether they begin another one."""
-STEP = 4000
 OWN = getattr(os, "O_CLOEXEC", 0) | getattr(os, "O_BINARY", 0)
 """Flags of every file that is opened: programs that are started don't get it, and Windows changes no byte."""
+
+STEP = 4000
 """The most bytes of a path that the system accepts at once."""
 
 MOST_LINKS = 40
@@ -106,6 +106,8 @@ def _why_no_image(reason: str, data: bytes) -> str:
     """Returns why bytes are not an image: what else they are, or the check of images that they fail."""
     if not data:
         return "it is empty"
+    if data.startswith(DATABASE):
+        return "it is a database, and not a sketch (hll get makes a sketch of one of keys, and hll add --db adds to it)"
     if _HEXADECIMAL.match(data):
         return "it is text, the hexadecimal digits of an image (xxd -r -p makes bytes of them)"
     if _is_text(data):
@@ -288,8 +290,6 @@ def of_bytes(name: str, data: bytes, call: Callable[[bytes], T]) -> T:
         _library.check_end(data)
         return result
     except ImageError as error:
-        if data.startswith(ARCHIVE):
-            raise Trouble(name, "an archive, and not an image (estimate, merge and check read archives)") from None
         raise image_trouble(name, error.reason, data) from None
 
 
@@ -304,15 +304,14 @@ def image_of_file(name: str) -> bytes:
     return of_file(name, lambda data: _library.convert(data, _library.width_in(data)))
 
 
-def image_at(name: str, lg_k: int) -> bytes:
-    """Returns what ``image_of_file`` returns for a file that had this ``lg_k`` when lines were counted for it.
+def check_lg_k(name: str, image: bytes, lg_k: int) -> bytes:
+    """Returns the image of a file that had this ``lg_k`` when lines were counted for it.
 
     Raises
     ------
     Trouble
-        If the file can't be read, is no image, or has another ``lg_k``.
+        If it has another ``lg_k``.
     """
-    image = image_of_file(name)
     found = _library.lg_k_in(image)
     if found != lg_k:
         words = f"its lg_k has become {found}, from {lg_k}, while lines were read: add them again"
@@ -320,28 +319,23 @@ def image_at(name: str, lg_k: int) -> bytes:
     return image
 
 
+def is_nothing(name: str) -> bool:
+    """Returns whether a file doesn't exist, or is empty. It isn't opened: closing it would release the locks that
+    SQLite holds for a connection of this process."""
+    return not os.path.exists(name) or (os.path.isfile(name) and os.path.getsize(name) == 0)
+
+
 # ---- writing
 
-_NO_LINKS = (errno.EPERM, errno.ENOSYS, errno.ENOTSUP, errno.EOPNOTSUPP)
-"""The errors of a file system that has no hard links."""
 
-
-NOTHING, CONTENTS, ALL = range(3)
-"""What is synced to disk when a file is written: nothing, its bytes before it gets its name, or its name as well."""
-
-Data = Union[bytes, Callable[[], Iterable[bytes]]]
-"""What is written: bytes, or a call that returns them in pieces, which may be called again."""
-
-
-def _write_all(place: int, data: Data) -> None:
+def _write_all(place: int, data: bytes) -> None:
     """Writes all bytes."""
-    for piece in [data] if isinstance(data, bytes) else data():
-        rest = memoryview(piece)
-        while rest:
-            rest = rest[os.write(place, rest) :]
+    rest = memoryview(data)
+    while rest:
+        rest = rest[os.write(place, rest) :]
 
 
-def _write_standard(data: Data) -> None:
+def _write_standard(data: bytes) -> None:
     """Writes to standard output, after what was printed."""
     try:
         if sys.stdout is not None:
@@ -411,12 +405,12 @@ def _keep_owner_and_mode(place: int, before: os.stat_result) -> None:
         os.fchmod(place, stat.S_IMODE(before.st_mode) & ~(stat.S_ISUID | stat.S_ISGID))
 
 
-def _fill(place: int, data: Data, before: Optional[os.stat_result], sync: int) -> None:
+def _fill(place: int, data: bytes, before: Optional[os.stat_result], sync: bool) -> None:
     """Writes a file, and syncs its bytes to disk if that is asked for."""
     if before is not None:
         _keep_owner_and_mode(place, before)
     _write_all(place, data)
-    if sync != NOTHING:
+    if sync:
         os.fsync(place)
 
 
@@ -444,29 +438,7 @@ def _named(place: int, name: str) -> bool:
     return True
 
 
-def _rename_over(temporary: str, path: str) -> None:
-    """Gives a file the name of another one, which it replaces."""
-    os.replace(temporary, path)
-
-
-def _rename_new(temporary: str, path: str) -> None:
-    """Gives a file a name that no file has, or raises ``FileExistsError``."""
-    try:
-        os.link(temporary, path)
-    except OSError as error:
-        if error.errno not in _NO_LINKS:
-            raise
-        if os.path.lexists(path):
-            raise FileExistsError(errno.EEXIST, os.strerror(errno.EEXIST), path) from None
-        os.rename(temporary, path)
-
-
-Rename = Callable[[str, str], None]
-
-
-def _replace_by_link(
-    path: str, data: Data, before: Optional[os.stat_result], rename: Rename, sync: int
-) -> bool:
+def _replace_by_link(path: str, data: bytes, before: Optional[os.stat_result], sync: bool) -> bool:
     """Writes a file that has no name until it is complete, so no incomplete file is left. Returns False
     if the system can't do this."""
     try:
@@ -478,15 +450,13 @@ def _replace_by_link(
         with _temporary(path) as temporary:
             if not _named(place, temporary):
                 return False
-            rename(temporary, path)
+            os.replace(temporary, path)
         return True
     finally:
         os.close(place)
 
 
-def _replace_by_name(
-    path: str, data: Data, before: Optional[os.stat_result], rename: Rename, sync: int
-) -> None:
+def _replace_by_name(path: str, data: bytes, before: Optional[os.stat_result], sync: bool) -> None:
     """Writes a file under another name first. Signals are delayed until it is written."""
     with _temporary(path) as temporary:
         place = os.open(temporary, os.O_WRONLY | os.O_CREAT | os.O_EXCL | OWN, 0o666)
@@ -494,10 +464,10 @@ def _replace_by_name(
             _fill(place, data, before, sync)
         finally:
             os.close(place)
-        rename(temporary, path)
+        os.replace(temporary, path)
 
 
-def sync_folder(folder: str) -> None:
+def _sync_folder(folder: str) -> None:
     """Syncs the names in a directory to disk, if the directory can be read and its file system supports that.
     Windows opens no directory."""
     if sys.platform == "win32":
@@ -515,20 +485,14 @@ def sync_folder(folder: str) -> None:
         os.close(place)
 
 
-def _replace(
-    path: str,
-    data: Data,
-    before: Optional[os.stat_result],
-    rename: Rename = _rename_over,
-    sync: int = CONTENTS,
-) -> None:
+def _replace(path: str, data: bytes, before: Optional[os.stat_result], sync: bool) -> None:
     """Replaces the file at a path, once the new file is complete, and on disk unless nothing is synced. The
     name is not on disk yet."""
-    if not _replace_by_link(path, data, before, rename, sync):
-        _replace_by_name(path, data, before, rename, sync)
+    if not _replace_by_link(path, data, before, sync):
+        _replace_by_name(path, data, before, sync)
 
 
-def _write_into(path: str, data: Data) -> None:
+def _write_into(path: str, data: bytes) -> None:
     """Writes into a pipe or a device."""
     place = os.open(path, os.O_WRONLY | OWN)
     try:
@@ -539,11 +503,10 @@ def _write_into(path: str, data: Data) -> None:
         os.close(place)
 
 
-def write_path(name: str, data: Data, sync: int = ALL) -> None:
+def write_path(name: str, data: bytes, sync: bool = True) -> None:
     """Writes a whole file, or leaves it unchanged. The file keeps its owner and its mode.
 
-    With ``CONTENTS``, the caller has to call ``sync_folder`` for the directory of the file. With ``NOTHING``,
-    the file can be empty or incomplete after a crash of the system.
+    Without ``sync``, the file can be empty or incomplete after a crash of the system.
 
     Raises
     ------
@@ -554,9 +517,9 @@ def write_path(name: str, data: Data, sync: int = ALL) -> None:
         path = target_of(name)
         before = _status_of(name)
         if before is None or stat.S_ISREG(before.st_mode):
-            _replace(path, data, before, sync=sync)
-            if sync == ALL:
-                sync_folder(os.path.dirname(path))
+            _replace(path, data, before, sync)
+            if sync:
+                _sync_folder(os.path.dirname(path))
         else:
             _write_into(name, data)
 
@@ -572,7 +535,7 @@ def reported_of(name: str) -> Iterator[None]:
         raise Trouble(name, "no name of a file", UNUSABLE) from None
 
 
-def write_file(name: str, data: Data, sync: int = ALL) -> None:
+def write_file(name: str, data: bytes) -> None:
     """Does what ``write_path`` does; ``-`` is standard output.
 
     Raises
@@ -584,149 +547,30 @@ def write_file(name: str, data: Data, sync: int = ALL) -> None:
         _write_standard(data)
         return
     with reported_of(name):
-        write_path(name, data, sync)
+        write_path(name, data)
 
 
-def create_file(name: str, data: Data) -> bool:
-    """Writes a whole new file. Its name is not on disk until ``sync_folder`` is called.
+def is_database(name: str) -> bool:
+    """Returns whether a file begins as an SQLite database does. Reading it reports why it can't be read."""
+    try:
+        if name == STANDARD or not os.path.isfile(name):
+            return False
+        with open(name, "rb") as stream:
+            return stream.read(len(DATABASE)) == DATABASE
+    except (OSError, ValueError):
+        return False
 
-    Returns
-    -------
-    bool
-        False, without a change, if a file has the name.
+
+def touch(name: str) -> None:
+    """Makes an empty file, unless the file exists.
 
     Raises
     ------
     Trouble
-        If it can't be written.
+        If it can't be made.
     """
     with reported_of(name):
-        try:
-            with _named_in_errors(name):
-                _replace(target_of(name), data, None, _rename_new)
-        except FileExistsError:
-            return False
-    return True
-
-
-# ---- several files
-
-
-MANY = 8
-"""From this number on, files that are written together are synced with their file system."""
-
-
-class Item(NamedTuple):
-    """A file that is written with others: its name, its bytes, and whether no file may have the name."""
-
-    name: str
-    data: bytes
-    is_new: bool
-
-
-class _Unnamed:
-    """A file of a directory that is complete and has no name yet. It is gone when it is closed without a name.
-
-    Attributes
-    ----------
-    place : int
-        Its descriptor.
-
-    Raises
-    ------
-    OSError
-        If the system can't do this, or has no room.
-    """
-
-    def __init__(self, item: Item) -> None:
-        self._rename = _rename_new if item.is_new else _rename_over
-        self._path = target_of(item.name)
-        before = None if item.is_new else _status_of(item.name)
-        place = os.open(os.path.dirname(self._path), os.O_WRONLY | os.O_TMPFILE | os.O_CLOEXEC, 0o666)
-        try:
-            _fill(place, item.data, before, NOTHING)
-        except BaseException:
-            os.close(place)
-            raise
-        self.place = place
-
-    def give_name(self) -> Optional[bool]:
-        """Gives the file its name. Returns False if it is new, and another file has the name; None if the
-        system can't name it."""
-        with _temporary(self._path) as temporary:
-            if not _named(self.place, temporary):
-                return None
-            try:
-                self._rename(temporary, self._path)
-            except FileExistsError:
-                return False
-        return True
-
-    def close(self) -> None:
-        os.close(self.place)
-
-
-def _sync_file_system(place: int) -> bool:
-    """Waits until all of a file's file system is on disk. Returns False if the system can't do that, or doesn't
-    report an error of the disk then, as Linux before 5.8.
-
-    Raises
-    ------
-    OSError
-        If the disk has an error.
-    """
-    release = [int(number) for number in re.findall("[0-9]+", os.uname().release)[:2]]
-    call = getattr(ctypes.CDLL(None, use_errno=True), "syncfs", None)
-    if call is None or sys.platform != "linux" or release < [5, 8]:
-        return False
-    if call(place) != 0:
-        number = ctypes.get_errno()
-        raise OSError(number, os.strerror(number))
-    return True
-
-
-def _sync_together(items: Sequence[Item], unnamed: Sequence[_Unnamed]) -> None:
-    """Waits until files are on disk. Many are synced with their whole file system, which takes about as long as
-    one of them."""
-    if len(items) >= MANY:
-        with reported_of(os.path.dirname(items[0].name)):
-            if _sync_file_system(unnamed[0].place):
-                return
-    for item, one in zip(items, unnamed):
-        with reported_of(item.name):
-            os.fsync(one.place)
-
-
-def _write_one(item: Item) -> bool:
-    """Writes a file alone. Returns False if it is new, and another file has the name."""
-    if item.is_new:
-        return create_file(item.name, item.data)
-    write_file(item.name, item.data, CONTENTS)
-    return True
-
-
-def write_together(items: Sequence[Item]) -> Iterator[bool]:
-    """Writes whole files of one directory, and yields for each whether it is written: a new file isn't if another
-    file has its name. All are on disk before the first gets its name, so a disk syncs them together. Their names
-    are not on disk until ``sync_folder`` is called.
-
-    Raises
-    ------
-    Trouble
-        If a file can't be written.
-    """
-    with ExitStack() as open_files:
-        try:
-            unnamed = [open_files.enter_context(closing(_Unnamed(item))) for item in items]
-        except (OSError, AttributeError):       # one at a time needs less, and names the file in errors
-            open_files.close()
-            yield from map(_write_one, items)
-            return
-        _sync_together(items, unnamed)
-        for item, one in zip(items, unnamed):
-            with reported_of(item.name):
-                is_named = one.give_name()
-            yield _write_one(item) if is_named is None else is_named
+        os.close(os.open(target_of(name), os.O_WRONLY | os.O_CREAT | OWN, 0o666))
 
 
 def _check_kept(name: str, before: os.stat_result) -> None:
@@ -735,6 +579,12 @@ def _check_kept(name: str, before: os.stat_result) -> None:
     if not is_writable or before.st_uid != os.geteuid():
         whose = "it belongs to another user" if is_writable else "it is read-only"
         raise Trouble(name, f"{whose} (--force replaces it)", UNUSABLE)
+
+
+def _check_no_database(name: str) -> None:
+    """Raises an error for a file that is a database, which a sketch would replace."""
+    if is_database(name):
+        raise Trouble(name, "it is a database, and a sketch would replace it (--force replaces it)", UNUSABLE)
 
 
 def check_output(name: str, force: bool = False) -> None:
@@ -762,6 +612,7 @@ def check_output(name: str, force: bool = False) -> None:
             raise Trouble(name, os.strerror(errno.EROFS if is_read_only else errno.EACCES), UNUSABLE)
         if before is not None and not force:
             _check_kept(name, before)
+            _check_no_database(name)
 
 
 # ---- locks

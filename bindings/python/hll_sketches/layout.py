@@ -6,8 +6,8 @@ from typing import List, Tuple
 
 from . import _library
 
-ARCHIVE = b"\x89HLLKEY\n"
-"""How an archive begins (docs/FORMAT.md, "Archives"), and no image."""
+DATABASE = b"SQLite format 3\0"
+"""How an SQLite database begins, and no image."""
 
 STAGES = ("list", "set", "registers")
 

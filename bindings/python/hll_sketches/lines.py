@@ -6,7 +6,7 @@ import csv
 import json
 import os
 import sys
-from itertools import chain, compress, repeat
+from itertools import chain, compress
 from operator import itemgetter, methodcaller, not_
 from typing import Any, Callable, Dict, FrozenSet, Iterable, Iterator, List, NamedTuple, Optional
 from typing import Sequence, Tuple, Union
@@ -235,7 +235,8 @@ def _cut(part: bytes, length: int) -> bytes:
 
 def _fits(key: Key) -> bool:
     """Returns whether each part of a key is short enough, and has no NUL."""
-    return all(len(part) <= LONGEST_KEY and b"\0" not in part for part in key)
+    whole = b"".join(key)
+    return b"\0" not in whole and (len(whole) <= LONGEST_KEY or max(map(len, key)) <= LONGEST_KEY)
 
 
 _ends_in_cr: Callable[[bytes], bool] = methodcaller("endswith", b"\r")
@@ -300,8 +301,9 @@ def _encoded(picked: List[Any]) -> List[Any]:
     return [tuple([one.encode("latin-1") for one in row]) for row in picked]
 
 
-def _members(line: bytes, names: Sequence[str]) -> Tuple[Optional[bytes], ...]:
-    """Returns the members of a JSON object as strings, and None for those that are null or that it lacks.
+def _members(line: bytes, names: Sequence[str]) -> Any:
+    """Returns the members of a JSON object as strings: those of the key, and then the value, or the value alone. A member
+    that is null or that it lacks is empty in the key, and None as the value.
 
     Raises
     ------
@@ -314,7 +316,8 @@ def _members(line: bytes, names: Sequence[str]) -> Tuple[Optional[bytes], ...]:
     some = [one.get(name) for name in names]
     if any(type(value) not in (str, int, type(None)) for value in some):
         raise ValueError
-    return tuple(None if value is None else str(value).encode("utf-8") for value in some)
+    *parts, value = [None if one is None else str(one).encode("utf-8") for one in some]
+    return (*(part or b"" for part in parts), value) if parts else value
 
 
 # ---- inputs
@@ -373,16 +376,17 @@ class Reader:
         before = 0
         for lines in source:
             self.sums.lines += len(lines)
-            self.sums.ending_in_cr += 0 if self.layout.are_ints else sum(map(_ends_in_cr, lines))
+            if b"\r" in b"\n".join(lines) and not self.layout.are_ints:
+                self.sums.ending_in_cr += sum(map(_ends_in_cr, lines))
             yield Batch([], lines, range(before + 1, before + len(lines) + 1))
             before += len(lines)
 
     def _columns(self, source: Iterable[List[bytes]]) -> Iterator[Batch]:
         """Yields columns between separators."""
-        layout, before = self.layout, 0
+        before = 0
         places = [number_of(column) or 0 for _, column in self._options()]
         split: Callable[[bytes], List[bytes]] = methodcaller(
-            "split", layout.separator, max(places) + 1      # what follows these columns stays together
+            "split", self.layout.separator, max(places) + 1      # what follows these columns stays together
         )
         pick: Callable[[List[bytes]], Any] = itemgetter(*places)
         for lines in source:
@@ -390,17 +394,24 @@ class Reader:
             numbers: Sequence[int] = range(before + 1, before + len(lines) + 1)
             before += len(lines)
             try:
-                picked = list(map(pick, map(split, lines)))
+                picked = list(map(pick, map(split, lines)))     # no list of a line is kept, which takes less time
             except IndexError:
-                fields = [split(line) for line in lines]
-                is_long = [len(one) > max(places) for one in fields]
-                for number in compress(numbers, map(not_, is_long)):
-                    at = number - numbers[0]
-                    self._refuse(number, SHORT, self._shortage(places, fields[at], excerpt(lines[at])))
-                numbers, picked = list(compress(numbers, is_long)), list(map(pick, compress(fields, is_long)))
-            if any(map(_ends_in_cr, lines)):
-                self.sums.ending_in_cr += sum(_ends_in_cr(row[-1] if layout.parts else row) for row in picked)
-            yield self._batch(picked, numbers)
+                fields, numbers = self._long_enough(list(map(split, lines)), lines, numbers, places)
+                picked = list(map(pick, fields))
+            batch, whole = self._batch(picked, numbers), b"\n".join(lines)
+            if b"\r" in whole:
+                self.sums.ending_in_cr += sum(map(_ends_in_cr, batch.values))
+            may_be_bad = b"\0" in whole or max(map(len, lines)) > LONGEST_KEY
+            yield self._with_keys(batch) if may_be_bad or self.layout.skip_empty_key else batch
+
+    def _long_enough(
+        self, fields: List[List[bytes]], lines: List[bytes], numbers: Sequence[int], places: Sequence[int]
+    ) -> Tuple[List[List[bytes]], List[int]]:
+        """Returns the fields and the numbers of the lines that have all columns."""
+        are_long = [len(one) > max(places) for one in fields]
+        for at in compress(range(len(lines)), map(not_, are_long)):
+            self._refuse(numbers[at], SHORT, self._shortage(places, fields[at], excerpt(lines[at])))
+        return list(compress(fields, are_long)), list(compress(numbers, are_long))
 
     def _csv(self, source: Iterable[List[bytes]]) -> Iterator[Batch]:
         """Yields columns of CSV."""
@@ -422,9 +433,9 @@ class Reader:
                 picked.append(pick(record))
                 numbers.append(number)
             if len(picked) == RECORDS:
-                yield self._batch(_encoded(picked), numbers)
+                yield self._with_keys(self._batch(_encoded(picked), numbers))
                 picked, numbers = [], []
-        yield self._batch(_encoded(picked), numbers)
+        yield self._with_keys(self._batch(_encoded(picked), numbers))
 
     def _json(self, source: Iterable[List[bytes]]) -> Iterator[Batch]:
         """Yields members of JSON objects."""
@@ -442,7 +453,7 @@ class Reader:
                 except (ValueError, RecursionError):
                     self._refuse(number, "is no JSON object of strings and integers", excerpt(line))
             before += len(lines)
-            yield self._batch(picked if self.layout.parts else [value for value, in picked], numbers)
+            yield self._with_keys(self._batch(picked, numbers))
 
     # ---- columns
 
@@ -471,34 +482,38 @@ class Reader:
         return [_place_in(names, option, column) for option, column in self._options()]
 
     def _batch(self, picked: List[Any], numbers: Sequence[int]) -> Batch:
-        """Returns lines of which the columns were picked: those of the key, and then the value."""
+        """Returns lines of which the columns were picked: those of the key and then the value, or the value alone."""
         if not self.layout.parts:
             return Batch([], picked, numbers)
-        *columns, values = list(zip(*picked)) or [()] * (len(self.layout.parts) + 1)
-        if self.layout.form == JSON:
-            columns = [[part or b"" for part in column] for column in columns]
-        keys = [
-            map(_cut, column, repeat(part.length)) if part.length else column
-            for part, column in zip(self.layout.parts, columns)
-        ]
-        return Batch(list(zip(*keys)), list(values), numbers)
+        keys, values = [row[:-1] for row in picked], [row[-1] for row in picked]
+        lengths = [part.length for part in self.layout.parts]
+        if any(lengths):
+            keys = [tuple([_cut(part, length) if length else part for part, length in zip(key, lengths)]) for key in keys]
+        return Batch(keys, values, numbers)
 
     # ---- which lines count
 
     def _counted(self, batch: Batch) -> Batch:
         """Returns the lines of a batch that count, and what they count as."""
         if not self._missing.isdisjoint(batch.values):
-            found = batch.only([value not in self._missing for value in batch.values])
-            self.sums.missing += len(batch.values) - len(found.values)
-            batch = found
-        batch = self._with_keys(batch)
+            batch = self._with_values(batch)
         if self.layout.are_ints:
             batch = self._as_ints(batch)
         self.sums.counted += len(batch.values)
         return batch
 
+    def _with_values(self, batch: Batch) -> Batch:
+        """Returns the lines whose value isn't missing."""
+        found = batch.only([value not in self._missing for value in batch.values])
+        self.sums.missing += len(batch.values) - len(found.values)
+        return found
+
     def _with_keys(self, batch: Batch) -> Batch:
-        """Returns the lines whose keys are accepted."""
+        """Returns the lines whose keys are accepted. Lines without a value are not asked for their keys."""
+        if not batch.keys:
+            return batch
+        if not self._missing.isdisjoint(batch.values):
+            batch = self._with_values(batch)
         keys = set(batch.keys)
         bad = {key for key in keys if not _fits(key)}
         for number in (number for number, key in zip(batch.numbers, batch.keys) if bad and key in bad):

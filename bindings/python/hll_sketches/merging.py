@@ -21,7 +21,6 @@ from ._errors import ArgumentError, FilesError, HllError, ImageError, PrecisionE
 from ._names import shown
 from ._state import BATCH_BYTES, State
 from ._workers import WorkerLost, Workers
-from .archive import MAGIC, entries_of_file, name_of_entry
 from .files import STANDARD, UNUSABLE, Trouble, bytes_of_file, image_trouble, images_in_stream, unusable
 from .finding import found
 from .layout import is_empty
@@ -90,38 +89,24 @@ class _Files:
         self._bytes = 0
 
     def take(self, name: str) -> None:
-        """Reads a file into the batch, or all images of an archive or of standard input."""
-        for which, image in self._images_of(name):
+        """Reads a file into the batch, or all images of standard input."""
+        for which, image in self._images_of_standard() if name == STANDARD else self._image_of(name):
             self._take_image(which, image)
 
-    def _images_of(self, name: str) -> Iterable[Tuple[str, bytes]]:
-        """Returns the image of a file, or the images of an archive once all of it is found to be in order,
-        with their names; none for a file that can't be read."""
+    def _image_of(self, name: str) -> Iterator[Tuple[str, bytes]]:
+        """Yields the image of a file, with its name, unless the file can't be read."""
         try:
-            if name == STANDARD:
-                return self._images_of_standard()
-            image = bytes_of_file(name)
-            if not image.startswith(MAGIC):
-                return [(name, image)]
-            for _ in entries_of_file(name):
-                pass
+            yield name, bytes_of_file(name)
         except Trouble as trouble:
             self.troubles.append(trouble)
-            return []
-        return ((name_of_entry(name, key), image) for key, image in entries_of_file(name))
 
     def _images_of_standard(self) -> Iterator[Tuple[str, bytes]]:
         """Yields the images that follow one another on standard input, with their names."""
         try:
             for number, image in enumerate(images_in_stream(partial(os.read, 0)), 1):
-                if image.startswith(MAGIC):
-                    for _ in entries_of_file(STANDARD):     # which says that it has to be a file
-                        pass
                 yield STANDARD if number == 1 else f"{STANDARD} (image {number:,})", image
         except OSError as error:
             self.troubles.append(unusable(STANDARD, error))
-        except Trouble as trouble:
-            self.troubles.append(trouble)
 
     def _take_image(self, name: str, image: bytes) -> None:
         """Puts an image into the batch."""

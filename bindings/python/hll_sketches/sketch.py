@@ -282,9 +282,9 @@ class Sketch:
             If the file can't be written. Then the old file is unchanged, with one exception: if only
             the last sync fails, the new file is complete, but its name may not be on disk yet.
         """
-        from .files import ALL, NOTHING, write_path
+        from .files import write_path
 
-        write_path(os.fspath(path), self.to_bytes(), ALL if sync else NOTHING)
+        write_path(os.fspath(path), self.to_bytes(), sync)
 
     @staticmethod
     def max_bytes(lg_k: int = 12, width: int = 8) -> int:

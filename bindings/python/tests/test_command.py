@@ -23,12 +23,12 @@ from unittest import mock
 
 import common  # noqa: F401, for the path
 from command import COMMAND, CUT, CommandTest, TEXT, TRUNCATED, environment, interruptible
-from hll_sketches import Sketch, __version__, _library, cli, commands, counting, fault_of, files, layout, processor, write_archive
+from hll_sketches import Sketch, __version__, _library, cli, commands, counting, fault_of, files, layout, processor
 from hll_sketches._errors import explained
 from hll_sketches._names import shown
 from mutants import KINDS, Mutants
 
-NAMES = "merge info estimate check fold convert diff plot new add".split()
+NAMES = "merge info estimate check fold convert diff plot new add count get drop dump load".split()
 
 
 def sketch_of(values, lg_k=12, width=8):
@@ -177,21 +177,21 @@ class AddTest(CommandTest):
     def test_refusals(self):
         self.write("bad.hll", b"\x02\x01")
         self.fails(1, [f"bad.hll: {TRUNCATED}"], "add", "bad.hll", given=b"a\n")
-        words = "none.hll: No such file or directory (hll new makes it)"
+        words = "none.hll: No such file or directory (--create makes it)"
         self.fails(2, [words], "add", "none.hll", given=b"a\n")
         self.assertEqual((self.read("bad.hll"), self.listed()), (b"\x02\x01", ["bad.hll"]))
 
     def test_integers(self):
         self.succeeds("new", "a.hll")
         given = b"1\n-2\n 3 \r\n18446744073709551615\n+4\n-9223372036854775808\n00"
-        self.succeeds("add", "a.hll", "--as", "int", given=given)
+        self.succeeds("add", "a.hll", "--int", given=given)
         values = [1, -2, 3, 2**64 - 1, 4, -(2**63), 0]
         self.assertEqual(self.read("a.hll"), image_of(values))
         for bad in ("x", "", "1.0", "1_000", "18446744073709551616", "-9223372036854775809"):
             err = f"standard input: line 100,001 is no integer of 64 bits ({shown(bad)}): nothing was counted " \
                 "(--skip-bad leaves such lines out)"
             given = b"5\n" * 100_000 + f"{bad}\n5\n".encode()
-            self.fails(1, [err], "add", "a.hll", "--as", "int", given=given)
+            self.fails(1, [err], "add", "a.hll", "--int", given=given)
         self.assertEqual(self.read("a.hll"), image_of(values))
 
     def test_lines_that_end_in_cr(self):
@@ -461,11 +461,6 @@ class InfoTest(CommandTest):
         one = sketch_of(range(30_000))
         numbers = [f"{number:,.0f}" for number in (one.estimate(), *one.bounds(2))]
         self.assertEqual(rows, [dict(zip(("estimate", "lower", "upper", "file"), [*numbers, "a.hll"]))] * 2)
-        write_archive(self.folder / "b.keys", {"/home": Sketch(), b"\xff": one})
-        out = self.succeeds("estimate", "--table", "b.keys", "a.hll", "--deviations", 1).decode().split("\n")
-        self.assertEqual(out[0].split(), ["estimate", "lower", "upper", "file", "key"])
-        self.assertEqual([line.split()[3:] for line in out[1:-1]], [["b.keys", "/home"], ["b.keys", r"$'\377'"], ["a.hll"]])
-        self.assertEqual(out[3].split()[1], f"{one.bounds(1)[0]:,.0f}")
         status, out, err = self.run_hll("estimate", "--table", "--json", "a.hll")
         self.assertEqual((status, out), (2, b""))
         self.assertIn("--table and --json don't go together", err)
@@ -482,7 +477,11 @@ class InfoTest(CommandTest):
         self.write("a.hll", image_of(range(1000)))
         self.write("b.hll", image_of(range(50)))
         number = f"{sketch_of(range(1000)).estimate():.0f}"
-        self.assertEqual(self.succeeds("estimate", "a.hll").decode(), f"{number}\n")
+        self.assertEqual(self.succeeds("estimate", "a.hll").decode(), f"{number}\ta.hll\n")
+        self.assertEqual(self.succeeds("estimate", "-", given=self.read("a.hll")).decode(), f"{number}\n")
+        self.write("all/c.hll", self.read("a.hll"))
+        found = self.succeeds("estimate", "all", "--files-from", "-", given=b"b.hll\n")
+        self.assertEqual(found.decode(), f"{number}\tall/c.hll\n50\tb.hll\n")
         out = self.succeeds("estimate", "a.hll", "b.hll").decode()
         self.assertEqual(out, f"{number}\ta.hll\n50\tb.hll\n")
         told = json.loads(self.succeeds("estimate", "--json", "-", given=self.read("b.hll")))
@@ -1020,14 +1019,14 @@ class StreamsTest(CommandTest):
         self.write("stub/tqdm.py", STUB.encode())
         self.write("all/a", image_of(["abc"]))
         self.write("all/b", image_of(["def"]))
-        write_archive(self.folder / "k.keys", {"a": Sketch(), "b": Sketch()})
         lines = self.write("lines", b"a\tx\n" * 1000)
         path = os.pathsep.join([str(self.folder / "stub"), str(common.PACKAGE)])
         for command, bars, given in (
             ("check all", ["2 of 2 file"], None), ("merge all -o x", ["2 of 2 file"], None),
             ("info all/a all/b", ["2 of 2 file"], None), ("estimate all/a all/b all/a", ["3 of 3 file"], None),
-            ("merge --by-key k.keys k.keys -o x", ["2 of 2 file", "4 of 4 image"], None),
             ("add all/a", ["4000 of 4000 B"], lines), ("add all/a lines lines", ["8000 of 8000 B"], None),
+            ("add --db e.db --key key=1 --value 2", ["4000 of 4000 B"], lines), ("merge e.db e.db -o e.db", ["2 of 2 file"], None),
+            ("count lines", ["4000 of 4000 B"], None),
         ):
             wanted = "".join(f"BAR {bar} 1.0\r\n" for bar in bars).encode()
             self.assertEqual(self.seen([*COMMAND, *command.split()], given, PYTHONPATH=path), (0, wanted), command)

@@ -172,6 +172,9 @@ class FormsTest(CommandTest):
         self.assertEqual(self.added(given=given), (sketch_of(["ann", "", "-", "NULL", "bob"]), ""))
         words = ["--missing", "", "--missing", "-", "--missing", "NULL"]
         self.assertEqual(self.added(*words, given=given), (sketch_of(["ann", "bob"]), "hll: left out 3 of 5 lines: no value\n"))
+        given = b"a\tann\nb\t\n"
+        self.assertEqual(self.added("--value", "2", given=given), (sketch_of(["ann"]), "hll: left out 1 of 2 lines: no value\n"))
+        self.assertEqual(self.added("--value", "2", "--keep-empty", given=given), (sketch_of(["ann", ""]), ""))
         given = 'user,x\nann,1\n,2\n"",3\n-,4\n'.encode()
         found = self.added("--csv", "--value", "user", given=given)
         self.assertEqual(found, (sketch_of(["ann", "-"]), "hll: left out 2 of 4 lines: no value\n"))
@@ -185,12 +188,12 @@ class FormsTest(CommandTest):
         self.write("b.csv", b"\xef\xbb\xbfuser;x\r\n\"cid\";1\r\n")
         self.write("c.jsonl", b'{"user": "dan"}\n{"user": 7}\n{"user": null}\n{}\n')
         self.assertEqual(self.added("a.tsv", "--value", "2"), (sketch_of(["ann", "bob"]), ""))
-        self.assertEqual(self.added("--value", "1", "--as", "int", "a.tsv"), (sketch_of([1, 2]), ""))
+        self.assertEqual(self.added("--value", "1", "--int", "a.tsv"), (sketch_of([1, 2]), ""))
         self.assertEqual(self.added("b.csv", "--csv", "--separator", ";", "--value", "user"), (sketch_of(["cid"]), ""))
         found = self.added("c.jsonl", "--jsonl", "--value", "user")
         self.assertEqual(found, (sketch_of(["dan", "7"]), "hll: left out 2 of 4 lines: no value\n"))
         self.write("int.jsonl", b'{"user": 7}\n{"user": "8"}\n')
-        self.assertEqual(self.added("int.jsonl", "--jsonl", "--value", "user", "--as", "int"), (sketch_of([7, 8]), ""))
+        self.assertEqual(self.added("int.jsonl", "--jsonl", "--value", "user", "--int"), (sketch_of([7, 8]), ""))
 
     def test_bad_lines(self):
         """The first is an error with its file and line, and nothing is added; or each kind is left out with its number."""
@@ -204,7 +207,7 @@ class FormsTest(CommandTest):
         self.fails(1, [words], "add", "a.hll", "--csv", "--value", "c", "--skip-bad", "bad.csv")
         words = "short.tsv: line 1 has a value that is no integer of 64 bits (ann): nothing was counted (--skip-bad leaves such lines out)"
         self.write("int.tsv", b"1\tann\n")
-        self.fails(1, [words.replace("short", "int")], "add", "a.hll", "--value", "2", "--as", "int", "int.tsv")
+        self.fails(1, [words.replace("short", "int")], "add", "a.hll", "--value", "2", "--int", "int.tsv")
         self.assertEqual(self.read("a.hll"), before)
         found = self.added("--value", "2", "--skip-bad", "short.tsv", "short.tsv")
         self.assertEqual(found, (sketch_of(["ann", "bob"]), "hll: left out 4 of 8 lines: each has too few columns (the first: short.tsv, line 2)\n"))

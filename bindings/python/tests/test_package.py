@@ -366,7 +366,7 @@ class PlantedTest(CommandTest):
         (link / "hll").symlink_to(common.ROOT / "programs" / "hll.sh")
         for more in ({}, {"PYTHONPATH": ""}, {"PYTHONPATH": ":"}, {"PYTHONPATH": "."}):
             for command in (words, ["sh", str(link / "hll"), *words[2:]]):
-                self.assertEqual(self.run_from(place, *command, **more), (0, "1\n", ""))
+                self.assertEqual(self.run_from(place, *command, **more), (0, "1\ta.hll\n", ""))
                 self.assertFalse(self.mark.exists())
         self.run_from(place, sys.executable, "-m", "hll_sketches")      # as the page of the package says
         self.assertTrue(self.mark.exists())

@@ -2,6 +2,7 @@
 """`hll plot`: a well-formed picture of the histogram, and a theory that sketches follow."""
 import math
 import os
+import re
 import struct
 import subprocess
 import unittest
@@ -9,7 +10,7 @@ import xml.etree.ElementTree as ElementTree
 
 import common  # noqa: F401, for the path
 from command import COMMAND, CommandTest, TRUNCATED, environment
-from hll_sketches import Sketch, plot
+from hll_sketches import Database, Sketch, bars, plot
 from test_package import SYSTEM, has, plain_environment
 
 SVG = "{http://www.w3.org/2000/svg}"
@@ -42,6 +43,38 @@ class PictureTest(CommandTest):
         self.assertEqual((ground.get("class"), ground.get("width")), ("ground", str(plot.WIDTH)))
         self.assertIn(".ground{fill:white}", data.decode())
         self.assertIn(f"{made.estimate():,.0f} values", data.decode())
+
+    def test_keys_of_a_database(self):
+        """A bar for each key, as long as its estimate, with a line from its lower to its upper bound."""
+        with Database(str(self.folder / "a.db"), ["day", "page"]) as database:
+            for number, count in enumerate((0, 5, 300, 40_000, 10_000)):
+                made = Sketch()
+                made.update_many(range(count))
+                database.update([(("d%d" % (number % 2), "<p%d>" % number), made)])
+            self.succeeds("plot", "a.db", "-o", "a.svg")
+            found = list(database.items())
+        data = self.read("a.svg")
+        widths = [float(bar.get("width")) for bar in parts(data, "rect", "bar")]
+        most = max(one.bounds(2)[1] for _, one in found)
+        self.assertEqual(len(widths), 5)
+        for width, line, (_, one) in zip(widths, parts(data, "path", "theory"), found):
+            self.assertAlmostEqual(width / widths[2], one.estimate() / found[2][1].estimate(), 2)
+            low, high = map(float, re.fullmatch(r"M([\d.]+) [\d.]+H([\d.]+)", line.get("d")).groups())
+            for place, bound in zip((low, high), one.bounds(2)):
+                self.assertAlmostEqual((place - bars.NAMES) / (plot.WIDTH - plot.RIGHT - bars.NAMES), bound / (1.05 * most), 2)
+        names = [one.text for one in parts(data, "text", "right")]
+        self.assertEqual(names, ["d0 <p0>", "d0 <p2>", "d0 <p4>", "d1 <p1>", "d1 <p3>"])
+        self.assertEqual(parts(data, "text", "title")[0].text, "a.db: distinct values of 5 keys")
+        self.succeeds("plot", "a.db", "-o", "b.svg", "--by", "day", "--top", 1, "--title", "Days")
+        self.assertEqual([one.text for one in parts(self.read("b.svg"), "text", "right")], ["d1"])
+        self.fails(1, ["a.db: no key is chosen"], "plot", "a.db", "-o", "c.svg", "--where", "0")
+        with Database(str(self.folder / "a.db")) as database:
+            database.update([((str(number), ""), Sketch()) for number in range(300)])
+        words = "a.db: a picture has at most 200 bars, and these are 305 keys (--by merges keys, and --top chooses some)"
+        self.fails(1, [words], "plot", "a.db", "-o", "c.svg")
+        self.succeeds("plot", "a.db", "-o", "c.svg", "--top", 200)
+        self.write("one.hll", Sketch().to_bytes())
+        self.fails(2, ["one.hll: it is no database of keys, which --top is for"], "plot", "one.hll", "-o", "d.svg", "--top", 3)
 
     def test_names(self):
         image = Sketch().to_bytes()

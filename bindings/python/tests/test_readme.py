@@ -105,7 +105,20 @@ class ExampleTest(CommandTest):
             self.succeeds("add", name, given=values)
         said = "3 distinct values; with 95% certainty 3 to 3\n"
         self.assertEqual(self.example("out.hll", "one.hll", "two.hll", "one.hll"), (0, said, ""))
-        self.assertEqual(self.succeeds("estimate", "out.hll"), b"3\n")
+        self.assertEqual(self.succeeds("estimate", "out.hll"), b"3\tout.hll\n")
+
+    def test_archives(self):
+        """examples/import_archive.py makes a database of an archive, and rejects one that is damaged or cut."""
+        archive = bytes.fromhex("89484c4c4b45590a0100000017de59ed050000000c00000072fa7b4f2f686f6d650201070c03080108f8116004ffffffff010000009a984347")
+        script = [sys.executable, common.ROOT / "examples" / "import_archive.py"]
+        self.write("old.keys", archive)
+        subprocess.run([*script, "old.keys", "new.db", "page"], cwd=self.folder, env=environment(), check=True)
+        self.assertEqual(self.succeeds("estimate", "new.db"), b"1\t/home\n")
+        for data in (archive[:20], archive[:40], archive[:30] + b"x" + archive[31:], b"x" + archive[1:]):
+            self.write("old.keys", data)
+            done = subprocess.run([*script, "old.keys", "bad.db", "page"], cwd=self.folder, env=environment(), capture_output=True)
+            self.assertEqual((done.returncode, done.stdout), (1, b""))
+        self.assertEqual(self.listed(), ["new.db", "old.keys"])
 
     def test_refuses(self):
         self.write("none.hll", CUT)

@@ -70,7 +70,7 @@ class RecipesTest(CommandTest):
     def setUp(self):
         super().setUp()
         self.make_hll(f'exec {HLL} "$@"')
-        for name in ("bindings", "examples"):
+        for name in ("bindings", "examples", "tests"):
             (self.folder / name).symlink_to(common.ROOT / name)
         path = os.pathsep.join([str(self.folder / ".bin"), os.environ["PATH"]])
         self.environment = dict(environment(), PATH=path, LC_ALL="C", MAKEFLAGS="")
@@ -92,7 +92,7 @@ class RecipesTest(CommandTest):
         return self.output("sh", "-c", command, stderr=subprocess.STDOUT).stdout
 
     def count(self, month):
-        return int(self.succeeds("estimate", f"months/{month}.hll"))
+        return int(self.succeeds("estimate", "-", given=self.read(f"months/{month}.hll")))
 
     # ---- blocks
 

@@ -269,8 +269,6 @@ class DiskTest(CommandTest):
                 self.assertEqual(self.steps_of_write(image, functools.partial(sketch.write, sync=False)), ["name"])
                 self.assertEqual(self.steps_of_write(image, functools.partial(sketch.write, sync=True)), wanted)
                 self.assertEqual(self.steps_of_write(image, sketch.write), wanted)
-                self.assertEqual(self.steps_of_write(b"new", functools.partial(files.write_file, data=b"new", sync=files.CONTENTS)),
-                                 ["3 bytes", "name"])
 
     def test_by_link_and_by_name(self):
         wanted = ["3000 bytes", "name", "folder"]
