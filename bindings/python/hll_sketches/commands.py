@@ -499,6 +499,8 @@ def _image_before(options: Namespace) -> bytes:
         return _library.new(options.lg_k or 12, options.width or 8)
     if not os.path.lexists(options.file):
         raise Trouble(options.file, "No such file or directory (--create makes it)", UNUSABLE)
+    if os.path.exists(options.file) and not os.path.isfile(options.file):
+        raise Trouble(options.file, "it is no plain file, which add changes (hll merge reads sketches from pipes)", UNUSABLE)
     image = image_of_file(options.file)
     for what, is_, wanted in (("lg_k", _library.lg_k_in(image), options.lg_k), ("width", _library.width_in(image), options.width)):
         if wanted not in (None, is_):

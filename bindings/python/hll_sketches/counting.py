@@ -10,6 +10,8 @@ from typing import TYPE_CHECKING, Any, Callable, DefaultDict, Dict, Iterator, Li
 from . import _library
 from ._columns import Batch
 from ._values import joined
+from .files import UNUSABLE, Trouble
+from .inputs import NOTHING
 from .lines import Batch as Lines
 from .lines import Key, Reader
 from .progress import InputBar
@@ -115,12 +117,18 @@ class Keyed:
 
     def _move(self) -> None:
         """Moves the sketches in memory to the temporary database."""
+        import sqlite3
+
         from .database import temporary, upsert
 
-        if self._rest is None:
-            self._rest = temporary(self._settings)
-        with self._rest:
-            self._rest.executemany(upsert("sketches", self._settings.keys, False), self._in_memory())
+        try:
+            if self._rest is None:
+                self._rest = temporary(self._settings)
+            with self._rest:
+                self._rest.executemany(upsert("sketches", self._settings.keys, False), self._in_memory())
+        except sqlite3.Error as error:
+            cure = "SQLITE_TMPDIR names another directory, and --memory keeps more in memory"
+            raise Trouble("temporary file", f"{error}: {NOTHING} ({cure})", UNUSABLE) from None
         self._images, self._bytes = {}, 0
 
     def rows(self) -> Iterator[Row]:

@@ -77,7 +77,9 @@ def _what_else(path: str) -> str:
     """Returns what a file is that is no database."""
     with open(path, "rb") as stream:
         is_sketch = stream.read(3)[1:] == b"\1\7"
-    return "it is one sketch, and not a database of keys (hll add FILE, hll estimate FILE)" if is_sketch else "it is no SQLite database"
+    if is_sketch:
+        return "it is one sketch, and not a database of keys (hll add FILE, hll estimate FILE)"
+    return "it is no SQLite database"
 
 
 def checksum_of(row: Sequence[Any]) -> int:
@@ -340,7 +342,7 @@ class Database:
     def _connected(self, is_new: bool) -> sqlite3.Connection:
         """Opens the file. A reader opens it to write, too, as it may have to roll back what a killed process wrote."""
         try:
-            path = target_of(self.path) if is_new else os.path.abspath(self.path)
+            path = target_of(self.path)
         except OSError as error:
             raise DatabaseError(self.path, error.strerror or str(error), UNUSABLE) from None
         escaped = path.replace("%", "%25").replace("?", "%3f").replace("#", "%23")
@@ -512,7 +514,8 @@ class Database:
         return DatabaseError(self.path, f"a sketch of {shown_key(key)} is rejected: {explained(error.reason)}")
 
     def items(self, where: Optional[str] = None, parameters: Sequence[Any] = ()) -> Iterator[Tuple[Key, Sketch]]:
-        """Yields the keys in ascending order, each with its sketch.
+        """Yields the keys in ascending order, each with its sketch. Other processes can't write until all are yielded, or
+        the iterator is closed.
 
         Parameters
         ----------

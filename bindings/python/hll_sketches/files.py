@@ -106,6 +106,8 @@ def _why_no_image(reason: str, data: bytes) -> str:
     """Returns why bytes are not an image: what else they are, or the check of images that they fail."""
     if not data:
         return "it is empty"
+    if data.startswith(b"\x89HLLKEY\n"):
+        return "it is an archive of an earlier checkout (examples/import_archive.py makes a database of it)"
     if data.startswith(DATABASE):
         return "it is a database, and not a sketch (hll get makes a sketch of one of keys, and hll add --db adds to it)"
     if _HEXADECIMAL.match(data):

@@ -2,6 +2,7 @@
 """The commands of ``hll`` on databases of keys. Each returns the exit status of the program."""
 from __future__ import annotations
 
+import errno
 import json
 import math
 import os
@@ -167,12 +168,30 @@ def add(options: Namespace, say: Say) -> int:
 # ---- reading
 
 
+_PIECE = re.compile(r"""'[^']*'|"[^"]*"|.""", re.DOTALL)
+"""A string or a name in quotes, or another character, of SQL."""
+
+
+def _listed(by: str) -> Iterator[str]:
+    """Yields the expressions of a list, which commas divide, except in parentheses and in quotes."""
+    depth, one = 0, ""
+    for piece in _PIECE.findall(by):
+        depth += (piece == "(") - (piece == ")")
+        if piece == "," and depth == 0:
+            yield one
+            one = ""
+        else:
+            one += piece
+    if by:
+        yield one
+
+
 def _expressions(database: Database, by: Optional[str]) -> Tuple[List[str], List[str]]:
     """Returns the names of columns, and their expressions."""
     if by is None:
         return list(database.keys), list(map(quoted, database.keys))
     names, expressions = [], []
-    for one in re.split(r",(?![^()]*\))", by) if by else ():
+    for one in _listed(by):
         name, has_expression, expression = one.partition("=")
         names.append(name)
         expressions.append(expression if has_expression else quoted(name) if name in database.keys else name)
@@ -277,30 +296,23 @@ def load(options: Namespace) -> int:
 # ---- writing
 
 
-def _check_new(name: str) -> None:
-    """Raises an error if a new database can't be made."""
-    if not is_nothing(name):
-        raise Trouble(name, "File exists", UNUSABLE)
-    check_output(name)
+def _check_new(name: str, words: str) -> None:
+    """Raises an error with these words if a database isn't new: it may have no keys, as one whose making failed."""
+    if is_nothing(name):
+        check_output(name)
+        return
+    with suppress(DatabaseError), Database(name) as database:
+        if not len(database):
+            return
+    raise Trouble(name, words, UNUSABLE)
 
 
 def _made(name: str, settings: Settings, rows: Iterable[Row]) -> int:
-    """Makes a new database of rows, or none, and returns the number of keys."""
-    count = 0
-
-    def counted() -> Iterator[Row]:
-        nonlocal count
-        for count, row in enumerate(rows, 1):
-            yield row
-
-    try:
-        with Database(name, settings.keys, settings.lg_k, settings.width) as database:
-            database.merge_rows(counted())
-    except BaseException:
-        with suppress(OSError):
-            os.unlink(name)
-        raise
-    return count
+    """Fills a new database with rows, or leaves it without keys, and returns the number of keys. It isn't removed then:
+    another process may just have opened it."""
+    with Database(name, settings.keys, settings.lg_k, settings.width) as database:
+        database.merge_rows(rows)
+        return len(database)
 
 
 def _together() -> int:
@@ -331,8 +343,8 @@ def merge(options: Namespace) -> int:
     output, names = options.output, options.files
     is_there = os.path.exists(output)
     same = [name for name in names if is_there and os.path.samefile(name, output)]
-    if is_there and not same and not is_nothing(output):
-        raise Trouble(output, "it exists: name it among the inputs to merge into it", UNUSABLE)
+    if not same:
+        _check_new(output, "it exists: name it among the inputs to merge into it")
     settings: Optional[Settings] = None
     with Bar("file", len(names)) as bar:
         for name in names:
@@ -349,11 +361,9 @@ def merge(options: Namespace) -> int:
             database.merge_rows((*row[:-1], _library.convert(row[-1], database.width)) for row in rows)
             keys = len(database)
     else:
-        check_output(output)
         width = options.width or settings.width
         converted = ((*row[:-1], _library.convert(row[-1], width)) for row in _rows_of(rest))
-        _made(output, settings._replace(width=width), converted)
-        keys = len(Database(output))
+        keys = _made(output, settings._replace(width=width), converted)
     if options.json:
         _put(json.dumps({"output": output, "keys": keys, "merged": len(names)}, indent=2) + "\n")
     return 0
@@ -386,11 +396,11 @@ def changed(
     options: Namespace, call: Callable[[bytes], bytes], lg_k: Optional[int] = None, width: Optional[int] = None
 ) -> int:
     """Writes a new database, at another ``lg_k`` or width, whose sketches are made of those of another."""
+    _check_new(options.output, os.strerror(errno.EEXIST))
     with Database(options.file) as database:
         settings = Settings(database.keys, lg_k or database.lg_k, width or database.width)
         if settings.lg_k > database.lg_k:
             raise Trouble(database.path, f"its lg_k is {database.lg_k}, and a fold goes no higher")
-        _check_new(options.output)
 
         def rows() -> Iterator[Row]:
             for *key, image in database.rows():

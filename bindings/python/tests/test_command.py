@@ -174,6 +174,13 @@ class AddTest(CommandTest):
         self.assertEqual(self.read("a.hll"), Sketch(4).to_bytes())
         self.assertNotEqual(out, self.read("b.hll"))
 
+    def test_a_file_that_is_no_plain_one(self):
+        """It is read once more before it is written, so a pipe can't be it."""
+        os.mkfifo(self.folder / "pipe")
+        words = "it is no plain file, which add changes (hll merge reads sketches from pipes)"
+        self.fails(2, [f"pipe: {words}"], "add", "pipe", given=b"a\n")
+        self.fails(2, [f".: {words}"], "add", ".", given=b"a\n")
+
     def test_refusals(self):
         self.write("bad.hll", b"\x02\x01")
         self.fails(1, [f"bad.hll: {TRUNCATED}"], "add", "bad.hll", given=b"a\n")

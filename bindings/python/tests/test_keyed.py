@@ -17,9 +17,10 @@ from unittest import mock
 import common  # noqa: F401, for the path
 import month
 from command import COMMAND, CommandTest, environment, other_user
-from hll_sketches import Database, DatabaseError, Sketch, _library, cli
+from hll_sketches import Database, DatabaseError, Sketch, _library, cli, counting, files
 from hll_sketches import database as module
 from hll_sketches import keyed
+from hll_sketches.lines import Batch
 
 KEY = ["--key", "day=1,page=2", "--value", "3"]
 LOG = b"mon\t/a\tann\nmon\t/a\tbob\nmon\t/b\tann\ntue\t/a\tcid\ntue\t\tdan\n"
@@ -163,6 +164,8 @@ class ReadTest(KeyedTest):
             ([], "2\tmon\t/a\n1\tmon\t/b\n1\ttue\t\n1\ttue\t/a\n"), (["--by", "page"], "1\t\n3\t/a\n1\t/b\n"), (["--by", ""], "4\n"),
             (["--by", "first=substr(page, 1, 1),day"], "2\t/\tmon\n1\t\ttue\n1\t/\ttue\n"), (["--top", "1"], "2\tmon\t/a\n"),
             (["--where", "day = 'mon' AND page = '/b'"], "1\tmon\t/b\n"), (["--where", "day = 'mon' -- all", "--by", ""], "2\n"),
+            (["--by", "page||','"], "1\t,\n3\t/a,\n1\t/b,\n"),
+            (["--by", "x=coalesce(nullif(page, ('/a')), 'a,('),day"], "1\t\ttue\n1\t/b\tmon\n2\ta,(\tmon\n1\ta,(\ttue\n"),
             (["--bounds", "--by", ""], "4\t4\t4\n"), (["--by", "week(day)"], "4\t\n"),
         ):
             out = self.succeeds("estimate", "a.db", *words).decode()
@@ -312,6 +315,29 @@ class MergeTest(KeyedTest):
         self.fails(1, ["a.db: its lg_k is 12, and a fold goes no higher"], "fold", "a.db", "--lg-k", 13, "-o", "13.db")
         self.fails(2, ["4.db: File exists"], "convert", "a.db", "--width", 4, "-o", "4.db")
         self.assertEqual((self.items(), self.listed()), (before, ["4.db", "7.db", "a.db"]))
+
+    def test_a_making_that_fails(self):
+        """It leaves a database without keys, which the next command fills."""
+        self.begin("a.db", b"".join(b"a\t%d\t%d\n" % (n, n) for n in range(2000)))
+        limited = lambda: (signal.signal(signal.SIGXFSZ, signal.SIG_IGN),  # noqa: E731
+                           resource.setrlimit(resource.RLIMIT_FSIZE, (40_000, 40_000)))
+        for words in (["merge", "a.db", "a.db"], ["fold", "a.db", "--lg-k", 12]):
+            status, out, err = self.run_hll(*words, "-o", "b.db", preexec_fn=limited)
+            self.assertEqual((status, out), (2, b""), err)
+            self.assertEqual(self.items("b.db"), {})
+            self.succeeds(*words, "-o", "b.db")
+            self.assertEqual(self.items("b.db"), self.items())
+            (self.folder / "b.db").unlink()
+
+    def test_a_temporary_file_that_is_full(self):
+        settings = module.Settings(("day", "page"), 12, 8)
+        full = sqlite3.OperationalError("database or disk is full")
+        sketches = counting.Keyed(settings, False, 0)
+        with mock.patch.object(module, "temporary", side_effect=full), self.assertRaises(files.Trouble) as caught:
+            sketches.add(Batch([(b"a", b"b")], [b"x"], [1]))
+            list(sketches.rows())
+        words = "database or disk is full: nothing was counted (SQLITE_TMPDIR names another directory, and --memory keeps more in memory)"
+        self.assertEqual(str(caught.exception), f"temporary file: {words}")
 
 
 class FaultsTest(KeyedTest):
