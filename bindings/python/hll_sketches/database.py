@@ -34,9 +34,6 @@ lock readers out from then on."""
 BATCH = 1 << 26
 """The bytes of images that wait to be merged."""
 
-FUNCTIONS = ("hll_merge", "hll_estimate", "hll_image_union_agg", "week", "month")
-"""The functions in expressions of SQL. The first three are those of the extension for SQLite."""
-
 Part = Union[str, bytes]
 Key = Tuple[Part, ...]
 """A key: the values of its columns. A value that is not UTF-8 is bytes."""
