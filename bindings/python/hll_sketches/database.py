@@ -345,7 +345,7 @@ class Database:
         escaped = path.replace("%", "%25").replace("?", "%3f").replace("#", "%23")
         uri = f"file:{escaped}?mode={'rwc' if is_new else 'rw'}"
         connection = sqlite3.connect(
-            uri, FOREVER if self._wait else PATIENCE, isolation_level=None, uri=True, check_same_thread=True
+            uri, timeout=FOREVER if self._wait else PATIENCE, isolation_level=None, uri=True, check_same_thread=True
         )
         self.has_extension = _has_extension(connection)
         functions = self._functions
