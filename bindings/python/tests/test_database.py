@@ -15,8 +15,6 @@ from command import CommandTest, environment
 from hll_sketches import ArgumentError, Database, DatabaseError, PrecisionError, Sketch, union_of
 from hll_sketches import database as module
 
-EXTENSION = common.ROOT / "bindings" / "sqlite" / "build" / "hll_sketches"
-
 
 def sketch_of(values, lg_k=12, width=8):
     made = Sketch(lg_k, width)
@@ -93,22 +91,6 @@ class ModelTest(DatabaseTest):
             self.assertEqual(list(database.union(["day"])), wanted)
             rows = list(database.select("day, hll_image_union_agg(image)", more=" GROUP BY day ORDER BY day"))
         self.assertEqual([((day,), Sketch.from_bytes(image)) for day, image in rows], wanted)
-
-    def test_extension(self):
-        """With the extension for SQLite results are the same."""
-        pairs = [(("2026-11-%02d" % (n % 9 + 1), "%d" % (n % 7)), sketch_of(range(n, n * 3))) for n in range(300)]
-        found = []
-        for path in ("", str(EXTENSION)):
-            if path and not (EXTENSION.with_suffix(".so").exists() and hasattr(sqlite3.Connection, "enable_load_extension")):
-                self.skipTest("bindings/sqlite isn't built, or this Python loads no extensions")
-            with mock.patch.dict(os.environ, {module.EXTENSION: path}):
-                with Database(self.path, ["day", "page"]) as database:
-                    self.assertEqual(database.has_extension, bool(path))
-                    database.update(pairs)
-                    database.update(pairs[::-1])
-                    found.append((list(database.items()), list(database.union(["week(day)"])), list(database.union()), list(database.faults())))
-            os.unlink(self.path)
-        self.assertEqual(found[0], found[1])
 
 
 class ArgumentsTest(DatabaseTest):

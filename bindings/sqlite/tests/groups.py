@@ -1,12 +1,17 @@
 # SPDX-License-Identifier: Apache-2.0
 """Aggregates over groups: beside unions of the Python package; what lowers an lg_k, NULLs, options, rows and windows."""
 import collections
+import os
+import pathlib
 import random
 import struct
+import tempfile
+from unittest import mock
 
-from base import ask, db, plain, refused, rejected, table_of
+from base import EXTENSION, ask, db, plain, refused, rejected, table_of
 from calls import GOOD, bad_images
-from hll_sketches import Sketch, union_of
+from hll_sketches import Database, Sketch, union_of
+from hll_sketches import database as module
 from images import image_of, image_of_coupons, image_of_values, is_empty, merged, random_coupons, random_image
 from report import SEED, check, equal
 
@@ -224,3 +229,30 @@ def windows():
     running = "SELECT (SELECT hll_estimate(hll_image_add_agg(b.x)) FROM temp.t b WHERE b.x <= a.x) FROM temp.t a ORDER BY a.x"
     table_of([1, 2, 2, 3])
     equal("running counts", [round(count) for (count,) in db.execute(running)], [1, 2, 2, 3])
+
+
+def sketches_in(path, pairs):
+    """What a database of the Python package has after these pairs were added twice: keys and unions with their images, and faults."""
+    with Database(path, ["day", "page"]) as database:
+        database.update(pairs)
+        database.update(pairs[::-1])
+        unions_in = [*database.items(), *database.union(["week(day)"]), *database.union()]
+        return database.has_extension, [(key, sketch.to_bytes()) for key, sketch in unions_in], list(database.faults())
+
+
+def databases():
+    """Databases of keys in Python have the same sketches with this extension and without it."""
+    pairs = []
+    for n in range(300):
+        sketch = Sketch()
+        sketch.update_many(range(n, n * 3))
+        pairs.append((("2026-11-%02d" % (n % 9 + 1), "%d" % (n % 7)), sketch))
+    with tempfile.TemporaryDirectory() as folder:
+        results = []
+        for extension in ("", str(EXTENSION)):
+            with mock.patch.dict(os.environ, {module.EXTENSION: extension}):
+                results.append(sketches_in(pathlib.Path(folder) / ("with.db" if extension else "without.db"), pairs))
+    (_, wanted, faults), found = results
+    equal("faults of a database", faults, [])
+    equal("a database with the extension", found, (True, wanted, []))
+    check("keys and unions", len(wanted) > 63, "%d" % len(wanted))

@@ -24,7 +24,7 @@ from tap import Tap, run_part  # noqa: E402
 
 PARTS = [shell.build, single.worked_rows, single.functions, single.estimates, single.arguments, single.reasons, single.version, values.behaviour, values.types,
          values.many, values.encodings, values.life_zero, values.life_json, groups.unions, groups.words, groups.added, groups.growth, groups.lg_k, groups.sizes, groups.large,
-         groups.nulls, groups.options, groups.rows, groups.windows, attack.mutants, attack.interrupts, attack.schemas,
+         groups.nulls, groups.options, groups.rows, groups.windows, groups.databases, attack.mutants, attack.interrupts, attack.schemas,
          memory.limits, memory.refusals, shell.both_codes, shell.old_processor, shell.readme, shell.checked, shell.installed]
 
 
