@@ -17,10 +17,10 @@ near_1000() {
 awk '/^    for day/ { on = 1 } on && !/^    / { exit } on' "$page" >lines
 [ "$(wc -l <lines)" -ge 5 ]
 sh -e lines >said
-for number in $(cat said); do
+for number in $(cut -f 1 said); do
     near_1000 "$number"
 done
-[ "$(wc -w <said)" -eq 2 ]
+[ "$(wc -l <said)" -eq 2 ]
 echo 'ok: the lines of INSTALL.md'
 
 for name in hll hll_merge hll_estimator_fields; do
