@@ -2,7 +2,11 @@
 # SPDX-License-Identifier: Apache-2.0
 # The command `hll` of this checkout, without installing it. `pip install ./bindings/python` installs it.
 # No module of the current folder is run: with -c Python looks there first, and where PYTHONPATH has an empty part.
-top=$(CDPATH='' cd -- "$(dirname -- "$(readlink -f -- "$0")")/.." && pwd -P) || exit 2
+# Each step is checked: a path without its beginning would lead to the parent of the current folder.
+self=$(readlink -f -- "$0") && [ -n "$self" ] && folder=$(dirname -- "$self") && top=$(CDPATH='' cd -- "$folder/.." && pwd -P) || {
+    echo 'hll: the checkout that this command belongs to is not found' >&2
+    exit 2
+}
 unset PYTHONPATH
 if ! command -v python3 >/dev/null; then
     echo 'hll: it needs Python 3.9 or later, which is not here: apt-get install python3' >&2

@@ -94,12 +94,12 @@ def finished(image: bytes, plain: bool) -> bytes:
     return _library.set_estimator_fields(image) if estimator_fields_of(image) == "zero" else image
 
 
-def put(options: Namespace, image: bytes, **more: object) -> int:
-    """Writes an image to the output, and prints a summary if ``--json`` asks for it."""
+def put(options: Namespace, image: bytes, more: Optional[Record] = None, is_new: bool = False) -> int:
+    """Writes an image to the output, which may have to be new, and prints a summary if ``--json`` asks for it."""
     check_output(options.output, options.force)
-    write_file(options.output, image)
+    write_file(options.output, image, is_new)
     if options.json:
-        show({"output": options.output, **more, **summary(image)})
+        show({"output": options.output, **(more or {}), **summary(image)})
     return OK
 
 
@@ -382,7 +382,7 @@ def merge(options: Namespace) -> int:
     lg_k = _library.lg_k_in(image)
     if options.lg_k is not None and lg_k < options.lg_k:
         say(f"merge: the result has lg_k {lg_k}, as a file has, and not {options.lg_k}")
-    return put(options, image, merged=answer.merged, left_out=_skipped(left_out))
+    return put(options, image, {"merged": answer.merged, "left_out": _skipped(left_out)})
 
 
 def _skipped(left_out: List[Trouble]) -> List[Record]:
@@ -422,10 +422,7 @@ def convert(options: Namespace) -> int:
 
 def new(options: Namespace) -> int:
     """Writes an empty sketch. Does not overwrite a file."""
-    exists = options.output != STANDARD and os.path.lexists(options.output)
-    if exists and not options.force:
-        raise Trouble(options.output, "File exists (--force replaces it)", UNUSABLE)
-    return put(options, _library.new(options.lg_k, options.width))
+    return put(options, _library.new(options.lg_k, options.width), is_new=not options.force)
 
 
 def count(options: Namespace) -> int:
@@ -488,8 +485,8 @@ def add(options: Namespace) -> int:
         image = check_lg_k(options.file, _image_before(options), lg_k)
         if reader.sums.counted:
             image = _library.merge(lg_k, _library.width_in(image), image, lines)
-        sums = {"lines": reader.sums.counted, "left_out": reader.sums.left_out}
-        return put(options, finished(image, options.plain), **sums)
+        sums: Record = {"lines": reader.sums.counted, "left_out": reader.sums.left_out}
+        return put(options, finished(image, options.plain), sums)
 
 
 def _image_before(options: Namespace) -> bytes:

@@ -86,6 +86,8 @@ def unusable(name: str, error: OSError) -> Trouble:
     words = error.strerror or str(error)
     if error.errno == errno.EISDIR:
         words += " (name its files, or merge them)"
+    elif error.errno == errno.EEXIST:
+        words += " (--force replaces it)"
     return Trouble(name, words, UNUSABLE)
 
 
@@ -419,28 +421,70 @@ def _fill(place: int, data: bytes, before: Optional[os.stat_result], sync: bool)
 @contextmanager
 def _temporary(path: str) -> Iterator[str]:
     """Yields a temporary name in the same directory, which walks skip. Signals are delayed while a file has
-    this name, and at the end no file has it."""
+    this name, and at the end no file has it, unless the system can't remove it: what was done then stays done."""
     name = f".hll-{os.getpid()}-{os.urandom(8).hex()}"
     temporary = os.path.join(os.path.dirname(path), name)
     with held_back(*ENDING):
         try:
             yield temporary
         finally:
-            with suppress(FileNotFoundError):
+            with suppress(OSError):
                 os.unlink(temporary)
 
 
 def _named(place: int, name: str) -> bool:
-    """Gives a name to a file that has none, by the link that the system has for its descriptor."""
+    """Gives a name to a file that has none, by the link that the system has for its descriptor. Raises
+    ``FileExistsError`` if another file has the name."""
     try:
         # any src_dir_fd makes os.link follow that link
         os.link(f"/proc/self/fd/{place}", name, src_dir_fd=place, follow_symlinks=True)
+    except FileExistsError:
+        raise
     except OSError:
         return False
     return True
 
 
-def _replace_by_link(path: str, data: bytes, before: Optional[os.stat_result], sync: bool) -> bool:
+def _is_ours(place: int, path: str) -> bool:
+    """Returns whether a file that this process has made has its name and its lock, so no other process writes it. Where a
+    file system has no locks, no process adds to its files."""
+    if sys.platform != "win32":
+        try:
+            fcntl.flock(place, fcntl.LOCK_EX | fcntl.LOCK_NB)
+        except BlockingIOError:
+            return False
+        except OSError:
+            pass
+    return _is_named(place, path)
+
+
+def _claim(temporary: str, path: str) -> None:
+    """Gives a file a name that no file has, where there are no hard links. An empty file has the name first, which no
+    other process can make. If one adds to it meanwhile, its file stays."""
+    place = os.open(path, os.O_RDONLY | os.O_CREAT | os.O_EXCL | OWN, 0o666)
+    try:
+        if not _is_ours(place, path):
+            raise FileExistsError(errno.EEXIST, os.strerror(errno.EEXIST), path)
+        try:
+            os.replace(temporary, path)
+        except OSError:
+            os.unlink(path)
+            raise
+    finally:
+        os.close(place)
+
+
+def _name_new(temporary: str, path: str) -> None:
+    """Gives a file a name that no file has. Raises ``FileExistsError`` if another file has the name."""
+    try:
+        os.link(temporary, path)
+    except FileExistsError:
+        raise
+    except OSError:
+        _claim(temporary, path)
+
+
+def _replace_by_link(path: str, data: bytes, before: Optional[os.stat_result], sync: bool, is_new: bool) -> bool:
     """Writes a file that has no name until it is complete, so no incomplete file is left. Returns False
     if the system can't do this."""
     try:
@@ -449,6 +493,8 @@ def _replace_by_link(path: str, data: bytes, before: Optional[os.stat_result], s
         return False
     try:
         _fill(place, data, before, sync)
+        if is_new:
+            return _named(place, path)
         with _temporary(path) as temporary:
             if not _named(place, temporary):
                 return False
@@ -458,7 +504,7 @@ def _replace_by_link(path: str, data: bytes, before: Optional[os.stat_result], s
         os.close(place)
 
 
-def _replace_by_name(path: str, data: bytes, before: Optional[os.stat_result], sync: bool) -> None:
+def _replace_by_name(path: str, data: bytes, before: Optional[os.stat_result], sync: bool, is_new: bool) -> None:
     """Writes a file under another name first. Signals are delayed until it is written."""
     with _temporary(path) as temporary:
         place = os.open(temporary, os.O_WRONLY | os.O_CREAT | os.O_EXCL | OWN, 0o666)
@@ -466,7 +512,10 @@ def _replace_by_name(path: str, data: bytes, before: Optional[os.stat_result], s
             _fill(place, data, before, sync)
         finally:
             os.close(place)
-        os.replace(temporary, path)
+        if is_new:
+            _name_new(temporary, path)
+        else:
+            os.replace(temporary, path)
 
 
 def _sync_folder(folder: str) -> None:
@@ -487,11 +536,11 @@ def _sync_folder(folder: str) -> None:
         os.close(place)
 
 
-def _replace(path: str, data: bytes, before: Optional[os.stat_result], sync: bool) -> None:
-    """Replaces the file at a path, once the new file is complete, and on disk unless nothing is synced. The
-    name is not on disk yet."""
-    if not _replace_by_link(path, data, before, sync):
-        _replace_by_name(path, data, before, sync)
+def _replace(path: str, data: bytes, before: Optional[os.stat_result], sync: bool, is_new: bool) -> None:
+    """Replaces the file at a path, or makes it if it has to be new, once the new file is complete, and on disk unless
+    nothing is synced. The name is not on disk yet."""
+    if not _replace_by_link(path, data, before, sync, is_new):
+        _replace_by_name(path, data, before, sync, is_new)
 
 
 def _write_into(path: str, data: bytes) -> None:
@@ -505,10 +554,11 @@ def _write_into(path: str, data: bytes) -> None:
         os.close(place)
 
 
-def write_path(name: str, data: bytes, sync: bool = True) -> None:
+def write_path(name: str, data: bytes, sync: bool = True, is_new: bool = False) -> None:
     """Writes a whole file, or leaves it unchanged. The file keeps its owner and its mode.
 
-    Without ``sync``, the file can be empty or incomplete after a crash of the system.
+    Without ``sync``, the file can be empty or incomplete after a crash of the system. With ``is_new``, a file that exists,
+    or that another process makes meanwhile, is not replaced.
 
     Raises
     ------
@@ -516,10 +566,12 @@ def write_path(name: str, data: bytes, sync: bool = True) -> None:
         If it can't be written.
     """
     with _named_in_errors(name):
+        if is_new and os.path.lexists(name):
+            raise FileExistsError(errno.EEXIST, os.strerror(errno.EEXIST), name)
         path = target_of(name)
         before = _status_of(name)
         if before is None or stat.S_ISREG(before.st_mode):
-            _replace(path, data, before, sync)
+            _replace(path, data, before, sync, is_new)
             if sync:
                 _sync_folder(os.path.dirname(path))
         else:
@@ -537,7 +589,7 @@ def reported_of(name: str) -> Iterator[None]:
         raise Trouble(name, "no name of a file", UNUSABLE) from None
 
 
-def write_file(name: str, data: bytes) -> None:
+def write_file(name: str, data: bytes, is_new: bool = False) -> None:
     """Does what ``write_path`` does; ``-`` is standard output.
 
     Raises
@@ -549,7 +601,7 @@ def write_file(name: str, data: bytes) -> None:
         _write_standard(data)
         return
     with reported_of(name):
-        write_path(name, data)
+        write_path(name, data, is_new=is_new)
 
 
 def is_database(name: str) -> bool:

@@ -371,6 +371,25 @@ class PlantedTest(CommandTest):
         self.run_from(place, sys.executable, "-m", "hll_sketches")      # as the page of the package says
         self.assertTrue(self.mark.exists())
 
+    def test_a_checkout_that_is_not_found(self):
+        """The command ends at the step that fails: no module next to the current folder is run."""
+        place, tools = self.folder / "theirs" / "here", self.folder / "tools"
+        place.mkdir(parents=True)
+        self.plant_modules(self.folder / "theirs" / "bindings" / "python")
+        tools.mkdir()
+        path = f"{tools}:{os.environ['PATH']}"
+        words = ["sh", str(common.ROOT / "programs" / "hll.sh"), "new", "-"]
+        for tool, code in (("readlink", "exit 1"), ("readlink", "echo /none; exit 1"), ("readlink", "exit 0"),
+                           ("dirname", "exit 1"), ("dirname", "echo .; exit 1"), ("dirname", "echo /none/none")):
+            with self.subTest(tool=tool, code=code):
+                (tools / tool).write_text(f"#!/bin/sh\n{code}\n")
+                (tools / tool).chmod(0o755)
+                status, out, err = self.run_from(place, *words, PATH=path)
+                (tools / tool).unlink()
+                self.assertEqual((status, out), (2, ""))
+                self.assertIn("hll: the checkout that this command belongs to is not found\n", err)
+                self.assertFalse(self.mark.exists())
+
 
 class NoPythonTest(CommandTest):
     """The command of a checkout without a Python that it can use says what to install."""

@@ -1,5 +1,7 @@
 # SPDX-License-Identifier: Apache-2.0
 """Signals end `hll` at once, also inside a call of the library, and leave nothing behind."""
+import errno
+import fcntl
 import functools
 import os
 import pathlib
@@ -9,7 +11,7 @@ import stat
 import subprocess
 import sys
 import time
-from contextlib import suppress
+from contextlib import ExitStack, contextmanager, suppress
 from unittest import mock
 
 import common  # noqa: F401, for the path
@@ -19,6 +21,8 @@ from long_searches import stride_coupons, unsorted_set
 
 TICK = 1 / os.sysconf("SC_CLK_TCK")
 BEFORE, AFTER = b"as it was", Sketch(12).to_bytes()
+
+EXISTS = "File exists (--force replaces it)"
 
 MAIN = "import sys; from hll_sketches.__main__ import main; sys.exit(main())\n"
 
@@ -235,6 +239,91 @@ class WritingTest(CommandTest):
         self.assertNotEqual(self.read("one.hll"), AFTER)
 
 
+WAYS = {
+    "a link to a file without a name": {},
+    "a link to a file": {"O_TMPFILE": 0},
+    "a claim": {"O_TMPFILE": 0, "link": mock.Mock(side_effect=PermissionError(errno.EPERM, "no links"))},
+}
+"""How a file that has to be new gets its name; each is for systems that can't do what comes before it."""
+
+
+@contextmanager
+def way(changes):
+    with ExitStack() as stack:
+        for name, value in changes.items():
+            stack.enter_context(mock.patch.object(os, name, value))
+        yield
+
+
+class NewFileTest(CommandTest):
+    """A file that another process makes at the same time stays."""
+
+    def test_it_is_made(self):
+        for name, changes in WAYS.items():
+            with self.subTest(name), way(changes):
+                files.write_file(str(self.folder / "a.hll"), b"new", True)
+                self.assertEqual((self.read("a.hll"), self.listed()), (b"new", ["a.hll"]))
+                for _ in range(2):
+                    with self.assertRaises(files.Trouble) as caught:
+                        files.write_file(str(self.folder / "a.hll"), b"newer", True)
+                    self.assertEqual((caught.exception.words, caught.exception.status), (EXISTS, 2))
+                self.assertEqual((self.read("a.hll"), self.listed()), (b"new", ["a.hll"]))
+            os.unlink(self.folder / "a.hll")
+
+    def refused(self, call, moment, meanwhile):
+        """Writes a new file, and lets another process do something before or after a call of the system."""
+        real, place = getattr(os, call), self.folder / "a.hll"
+
+        def called(*arguments, **named):
+            is_it = call != "open" or (arguments[0] == str(place) and arguments[1] & os.O_CREAT)
+            if is_it and moment == "before":
+                meanwhile(place)
+            result = real(*arguments, **named)
+            if is_it and moment == "after":
+                meanwhile(place)
+            return result
+
+        with mock.patch.object(os, call, called), self.assertRaises(files.Trouble) as caught:
+            files.write_file(str(place), b"mine", True)
+        self.assertEqual((caught.exception.words, caught.exception.status), (EXISTS, 2))
+        self.assertEqual((self.read("a.hll"), self.listed()), (b"theirs", ["a.hll"]))
+        os.unlink(place)
+
+    def test_another_makes_it_first(self):
+        for name, changes in WAYS.items():
+            with self.subTest(name), way(changes):
+                self.refused("open" if name == "a claim" else "link", "before", lambda place: place.write_bytes(b"theirs"))
+
+    def test_another_adds_to_the_claim(self):
+        """It took the empty file for that of `add --create`, and replaced it."""
+        with way(WAYS["a claim"]):
+            self.refused("open", "after", lambda place: files.write_path(str(place), b"theirs"))
+
+    def test_another_is_adding_to_the_claim(self):
+        """It holds the lock, so the file is its own."""
+        with ExitStack() as stack, way(WAYS["a claim"]):
+            def lock(place):
+                held = stack.enter_context(open(place, "r+b"))
+                fcntl.flock(held, fcntl.LOCK_EX)
+                held.write(b"theirs")
+                held.flush()
+
+            self.refused("open", "after", lock)
+
+    def test_a_claim_that_comes_to_nothing(self):
+        """No empty file is left."""
+        full = mock.Mock(side_effect=OSError(errno.ENOSPC, "No space left on device"))
+        with way({**WAYS["a claim"], "replace": full}), self.assertRaises(files.Trouble) as caught:
+            files.write_file(str(self.folder / "a.hll"), b"new", True)
+        self.assertEqual((caught.exception.words, self.listed()), ("No space left on device", []))
+
+    def test_where_there_are_no_locks(self):
+        no_locks = mock.Mock(side_effect=OSError(errno.ENOLCK, "No locks available"))
+        with way(WAYS["a claim"]), mock.patch.object(fcntl, "flock", no_locks):
+            files.write_file(str(self.folder / "a.hll"), b"new", True)
+        self.assertEqual(self.read("a.hll"), b"new")
+
+
 class DiskTest(CommandTest):
     """A file is on the disk before it gets its name, and then the name is."""
 
@@ -290,6 +379,15 @@ class DiskTest(CommandTest):
         """It is written under a name, as where the system keeps no links for descriptors."""
         with mock.patch.object(os, "link", side_effect=FileNotFoundError):
             self.assertEqual(self.steps_of_write(b"new")[-2:], ["name", "folder"])
+
+    def test_a_name_that_cannot_be_removed(self):
+        """The file is written, so nothing is reported."""
+        unlink = mock.Mock(side_effect=OSError(errno.ENOSPC, "No space left on device"))
+        for is_new in (False, True):
+            with mock.patch.object(os, "O_TMPFILE", 0), mock.patch.object(os, "unlink", unlink):
+                files.write_file(str(self.folder / f"{is_new}.hll"), b"new", is_new)
+            self.assertEqual(self.read(f"{is_new}.hll"), b"new")
+        unlink.assert_called()
 
     def test_modes(self):
         """A new file has the mode that a plain one would have; another keeps its own."""
