@@ -33,6 +33,7 @@
  *     HLL_BUFFER: the buffer is too small. *size is the number of bytes that are needed.
  *     HLL_COARSER: the sketch to be merged has fewer registers. *lg_k is its lg_k.
  *     HLL_OTHER_LG_K: the sketches have different lg_k, and no lg_max_k was given.
+ *     HLL_STATE: a state was written by another version of the library. hll_state_check alone returns it.
  *
  * Arguments
  *     lg_k, lg_max_k   the base-2 logarithm of the number of registers, 4 to 21. So is `to` of a fold.
@@ -118,9 +119,9 @@
  *       the union is canonical too.
  *     - What hll_image_head reports. If the bytes begin with an image, the size is the size of that image.
  *     Not proved, but tested: counters (the memory of a sketch, its waiting values and copies; each change of the sketch is a
- *     proved call), bounds, estimates from coupons, hll_image_trailing, hll_hip_estimate, hll_version, hll_processor, the division
- *     of a state's room by four, and what this header defines itself. Nothing is proved of time, threads, NULL and other libraries. Of memory
- *     one thing is proved: for which images an allocation may fail.
+ *     proved call), bounds, estimates from coupons, hll_image_trailing, hll_state_check, hll_hip_estimate, hll_version,
+ *     hll_processor, the division of a state's room by four, and what this header defines itself. Nothing is proved of time,
+ *     threads, NULL and other libraries. Of memory one thing is proved: for which images an allocation may fail.
  */
 #ifndef HLL_H
 #define HLL_H
@@ -163,7 +164,8 @@ enum {
     HLL_BUFFER = 14,     /* the buffer is too small; *size is the size needed */
     HLL_COARSER = 15,    /* the sketch to be merged has fewer registers; *lg_k is its lg_k */
     HLL_OTHER_LG_K = 16, /* the sketches have different lg_k, and no lg_max_k was given */
-    HLL_TRAILING = 17    /* bytes follow the image: no call returns it, but bindings reject files and values for it */
+    HLL_TRAILING = 17,   /* bytes follow the image: no call returns it, but bindings reject files and values for it */
+    HLL_STATE = 18       /* the state was written by another version of the library */
 };
 
 /* The stage of a sketch. */
@@ -455,7 +457,7 @@ hll_status hll_registers_image(const uint8_t *registers, size_t count, unsigned 
  * many again and eight more, but no more than the largest set needs. For registers they are exactly what is needed, and they are
  * at most HLL_STATE_MOST. So a loop reallocates only a few times. The bytes may be moved, and need no alignment. They are the
  * same on processors of either byte order. They change with the version of the library, which rejects bytes of another version
- * (HLL_ARGUMENT): store images in files and columns, not states.
+ * (HLL_ARGUMENT; hll_state_check distinguishes them): store images in files and columns, not states.
  *
  * The image of a state is the image that hll_image_add and hll_images_union would make of an empty sketch with the same values
  * and sketches. Without values it is the image of an empty list. If the bytes are not a state, a call returns HLL_ARGUMENT. If
@@ -491,6 +493,11 @@ hll_status hll_state_new(unsigned lg_k, void *state, size_t room);
  * seven of them are distinct, and has registers if there are too many for a set.
  * Returns HLL_OK or HLL_ARGUMENT. Changes no byte of the state. Allocates nothing. */
 hll_status hll_state_info(const void *state, size_t room, hll_state_summary *summary, size_t summary_size);
+
+/* Returns whether bytes are a state: HLL_OK, HLL_STATE if a library with another version of states wrote them, or HLL_ARGUMENT.
+ * After another call returned HLL_ARGUMENT, it says whether processes with different versions exchanged a state. (The other calls
+ * don't look, as that would cost every added value a nanosecond.) Changes no byte of the state. Allocates nothing. Not proved. */
+hll_status hll_state_check(const void *state, size_t room);
 
 /* Adds n values to a state, delimited by `ends`, as hll_image_add does.
  * Returns HLL_OK, HLL_ARGUMENT or HLL_BUFFER. Allocates nothing. */
@@ -708,10 +715,10 @@ hll_status hll_histogram_estimate(const hll_histogram *histogram, hll_estimation
 /* Returns a status as one word: "ok", "truncated", "family" and so on, or "unknown" for any other number. */
 static inline const char *hll_reason(hll_status status)
 {
-    static const char *const words[] = {"ok",       "truncated", "family", "version", "lgk",        "width",
-                                        "stage",    "preamble",  "lgarr",  "count",   "coupon",     "register",
-                                        "argument", "memory",    "buffer", "coarser", "other_lg_k", "trailing"};
-    return status <= HLL_TRAILING ? words[status] : "unknown";
+    static const char *const words[] = {"ok",       "truncated", "family",     "version",  "lgk",      "width",    "stage",
+                                        "preamble", "lgarr",     "count",      "coupon",   "register", "argument", "memory",
+                                        "buffer",   "coarser",   "other_lg_k", "trailing", "state"};
+    return status <= HLL_STATE ? words[status] : "unknown";
 }
 
 /* Returns a status as a sentence, or "The status is unknown." for any other number. */
@@ -736,8 +743,9 @@ static inline const char *hll_message(hll_status status)
         "What is to be merged has fewer registers.",
         "The sketches have different lg_k, and no lg_max_k was given.",
         "Bytes follow the image.",
+        "The state was written by another version of the library.",
     };
-    return status <= HLL_TRAILING ? sentences[status] : "The status is unknown.";
+    return status <= HLL_STATE ? sentences[status] : "The status is unknown.";
 }
 
 /* Returns whether an untrusted image is quick to read, or to reject: whether it has at most `most` bytes, and its lg_k is at most

@@ -1,8 +1,11 @@
 /* SPDX-License-Identifier: Apache-2.0 */
 /*
- * States: the bytes of a caller are passed to the proved calls as elements of four bytes. Plain C, not proved.
+ * States: the bytes of a caller are passed to the proved calls as elements of four bytes. And whether bytes are a state of another
+ * version. Plain C, not proved.
  */
 #include "hll.h"
+
+#include <string.h>
 
 /* Declares the proved calls that are wrapped, which have the prefix proved_ here. */
 struct estimate; /* of estimate.c */
@@ -56,4 +59,18 @@ hll_status hll_state_settled_image(const void *state, size_t room, unsigned widt
                                    size_t *size)
 {
     return proved_hll_state_settled_image(state, room / 4, width, out, out_room, size);
+}
+
+/* The first number of a state is a kind in one byte, two bytes that all versions have, and the version. */
+hll_status hll_state_check(const void *state, size_t room)
+{
+    const uint8_t *bytes = state;
+    uint8_t own[HLL_STATE_NEW];
+    hll_state_summary summary;
+    hll_status status = hll_state_info(state, room, &summary, sizeof summary);
+
+    if (status == HLL_OK || room < HLL_STATE_NEW)
+        return status;
+    (void)hll_state_new(4, own, sizeof own);
+    return memcmp(bytes + 1, own + 1, 2) == 0 && bytes[3] != own[3] ? HLL_STATE : status;
 }

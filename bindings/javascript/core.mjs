@@ -6,7 +6,7 @@
 /** A word for each status of a call. */
 export const REASONS = Object.freeze([
   "ok", "truncated", "family", "version", "lgk", "width", "stage", "preamble", "lgarr", "count", "coupon", "register",
-  "argument", "memory", "buffer", "coarser", "other_lg_k", "trailing",
+  "argument", "memory", "buffer", "coarser", "other_lg_k", "trailing", "state",
 ]);
 
 /** A sentence for each status of a call. */
@@ -29,6 +29,7 @@ export const MESSAGES = Object.freeze([
   "What is to be merged has fewer registers.",
   "The sketches have different lg_k, and no lg_max_k was given.",
   "Bytes follow the image.",
+  "The state was written by another version of the library.",
 ]);
 // end of what scripts/calls.py writes
 

@@ -4,7 +4,7 @@
 // scripts/calls.py writes what follows, from bindings/c/hll.h
 export type Reason =
   "ok" | "truncated" | "family" | "version" | "lgk" | "width" | "stage" | "preamble" | "lgarr" | "count" | "coupon" |
-  "register" | "argument" | "memory" | "buffer" | "coarser" | "other_lg_k" | "trailing";
+  "register" | "argument" | "memory" | "buffer" | "coarser" | "other_lg_k" | "trailing" | "state";
 // end of what scripts/calls.py writes
 
 /** The words of statuses 0 to 16, and a sentence for each. */

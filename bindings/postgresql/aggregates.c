@@ -174,7 +174,8 @@ hll_pg_combine(PG_FUNCTION_ARGS)
 	PG_RETURN_POINTER(group);
 }
 
-/* What a worker sends: a header, and the image of the sketch if there is one. Sender and receiver are one server. */
+/* What a worker sends: a header, and the image of the sketch if there is one. Sender and receiver are one server, but they may have
+ * loaded two versions of the module, if the package was replaced after the session began: so the header stays as it is. */
 typedef struct Sent
 {
 	uint8		lg_k;

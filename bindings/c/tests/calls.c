@@ -25,12 +25,12 @@ static const char *const faulty[] = {
 
 static void test_reasons(void)
 {
-    static const char *const words[] = {"ok",       "truncated", "family", "version", "lgk",        "width",
-                                        "stage",    "preamble",  "lgarr",  "count",   "coupon",     "register",
-                                        "argument", "memory",    "buffer", "coarser", "other_lg_k", "trailing"};
+    static const char *const words[] = {"ok",       "truncated", "family",     "version",  "lgk",      "width",    "stage",
+                                        "preamble", "lgarr",     "count",      "coupon",   "register", "argument", "memory",
+                                        "buffer",   "coarser",   "other_lg_k", "trailing", "state"};
     int status;
     for (status = 0; status < 256; status++)
-        CHECK(strcmp(hll_reason((hll_status)status), status < 18 ? words[status] : "unknown") == 0, "%d", status);
+        CHECK(strcmp(hll_reason((hll_status)status), status < 19 ? words[status] : "unknown") == 0, "%d", status);
 }
 
 /* A sentence for each, and one for all numbers that are none. */
@@ -40,9 +40,9 @@ static void test_messages(void)
     for (status = 0; status < 256; status++) {
         const char *message = hll_message((hll_status)status);
         CHECK(strlen(message) > 10 && message[strlen(message) - 1] == '.', "%d", status);
-        for (other = 0; other < status && status < 18; other++)
+        for (other = 0; other < status && status < 19; other++)
             CHECK(strcmp(message, hll_message((hll_status)other)) != 0, "%d as %d", status, other);
-        CHECK((strcmp(message, hll_message(255)) == 0) == (status >= 18), "%d", status);
+        CHECK((strcmp(message, hll_message(255)) == 0) == (status >= 19), "%d", status);
     }
 }
 

@@ -450,21 +450,24 @@ static void changed_bytes(void)
           "the sketch changed");
 }
 
-/* States as they began before they had a version: no call takes them for states. */
+/* States as they began before they had a version, and as a later version may write them: no call takes them for states. */
 static void other_versions(void)
 {
     static const uint8_t coupons[HLL_STATE_NEW] = {0x41, 0x4c, 0x48, 0x4c, 4, 0, 0, 0, 0, 0, 0, 0, 3},
-                         registers[HLL_STATE_NEW] = {0x42, 0x4c, 0x48, 0x4c, 4};
-    const uint8_t *const heads[] = {coupons, registers};
+                         registers[HLL_STATE_NEW] = {0x42, 0x4c, 0x48, 0x4c, 4},
+                         later[HLL_STATE_NEW] = {0x43, 0x4c, 0x48, 3, 4};
+    const uint8_t *const heads[] = {coupons, registers, later};
     uint8_t state[HLL_STATE_NEW + 16], before[sizeof state], own[HLL_STATE_MOST(4)], out[64];
     hll_state_summary summary;
     hll_estimation found;
     size_t size = 77, i;
     need(hll_state_new(4, own, sizeof own) == HLL_OK, "a new state");
-    for (i = 0; i < 2; i++) {
+    for (i = 0; i < 3; i++) {
         memset(state, 0, sizeof state);
         memcpy(state, heads[i], HLL_STATE_NEW);
         memcpy(before, state, sizeof state);
+        CHECK(hll_state_check(state, sizeof state) == HLL_STATE, "the version, %zu", i);
+        CHECK(hll_state_check(state, HLL_STATE_NEW - 1) == HLL_ARGUMENT, "too few bytes, %zu", i);
         CHECK(hll_state_info(state, sizeof state, &summary, sizeof summary) == HLL_ARGUMENT, "info, %zu", i);
         CHECK(hll_state_add_value(state, sizeof state, &size, (const uint8_t *)"a", 1) == HLL_ARGUMENT, "a value, %zu", i);
         CHECK(hll_state_image(state, sizeof state, 8, out, sizeof out, &size) == HLL_ARGUMENT, "an image, %zu", i);
@@ -474,8 +477,28 @@ static void other_versions(void)
         CHECK(hll_state_join_state(0, state, sizeof state, &size, own, sizeof own) == HLL_ARGUMENT, "the state, %zu", i);
         CHECK(size == 77 && memcmp(before, state, sizeof state) == 0, "a state of another version changed, %zu", i);
         memcpy(state, own, 4); /* and with what this version begins with, it is one */
-        CHECK(i == 1 || hll_state_info(state, sizeof state, &summary, sizeof summary) == HLL_OK, "this version, %zu", i);
+        CHECK(i > 0 || hll_state_info(state, sizeof state, &summary, sizeof summary) == HLL_OK, "this version, %zu", i);
+        CHECK(i > 0 || hll_state_check(state, sizeof state) == HLL_OK, "it is a state, %zu", i);
     }
+}
+
+/* Bytes that no version wrote: a change of any of the first four bytes, and what this version's first number begins. */
+static void no_states(void)
+{
+    uint8_t state[HLL_STATE_NEW];
+    size_t i;
+    for (i = 0; i < 4; i++) {
+        need(hll_state_new(4, state, sizeof state) == HLL_OK && hll_state_check(state, sizeof state) == HLL_OK,
+             "a new state");
+        state[i] ^= 0x80;
+        CHECK(hll_state_check(state, sizeof state) == (i == 3 ? HLL_STATE : HLL_ARGUMENT), "byte %zu", i);
+    }
+    need(hll_state_new(4, state, sizeof state) == HLL_OK, "a new state");
+    state[4] = 3; /* an lg_k */
+    CHECK(hll_state_check(state, sizeof state) == HLL_ARGUMENT, "this version, but no state");
+    memset(state, 0, sizeof state);
+    CHECK(hll_state_check(state, sizeof state) == HLL_ARGUMENT, "zeros");
+    CHECK(hll_state_check(NULL, 0) == HLL_ARGUMENT, "no bytes");
 }
 
 /* Reads a state by the calls that write no byte of it. Returns HLL_OK if they say what the image says, HLL_ARGUMENT if they say
@@ -629,6 +652,7 @@ int main(int argc, char **argv)
     refused_joins();
     changed_bytes();
     other_versions();
+    no_states();
     settled();
     for (lg_k = 4; lg_k <= 10; lg_k++)
         each_count(lg_k);

@@ -182,6 +182,7 @@ WORDS = (
     "coarser",
     "other_lg_k",
     "trailing",
+    "state",
 )
 _CALLS: Dict[str, Tuple[object, Sequence[object]]] = {
     "hll_version": (c_uint32, []),
