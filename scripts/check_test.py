@@ -70,6 +70,28 @@ class CountTest(unittest.TestCase):
             self.assertIn("skipped without a reason: 1..0", said)
 
 
+class MachineTest(unittest.TestCase):
+    def machine(self, **tools):
+        """Returns what is printed of a machine with these tools alone, each of which is a script."""
+        with tempfile.TemporaryDirectory() as room:
+            for name, code in {"uname": "echo Linux x86_64", "getconf": "echo 4", **tools}.items():
+                tool = pathlib.Path(room, name)
+                tool.write_text("#!/bin/sh\n%s\n" % code)
+                tool.chmod(0o755)
+            script = "set -u\n%s\nmachine" % function("machine")
+            ran = subprocess.run(["/bin/bash", "-c", script], capture_output=True, text=True, check=True, env={"PATH": room})
+            self.assertEqual(ran.stderr, "")
+            return ran.stdout
+
+    def test_all_is_here(self):
+        said = self.machine(rt="echo kit", cc="echo cc 12; echo more", python3="echo Python 3")
+        self.assertEqual(said, "on Linux x86_64, 4 processors, kit, cc 12, Python 3\n")
+
+    def test_what_lacks_is_said(self):
+        said = self.machine()
+        self.assertEqual(said, "on Linux x86_64, 4 processors, no rt, no C compiler (cc), no python3, so most parts are skipped\n")
+
+
 class DocumentsTest(unittest.TestCase):
     def documents(self, is_fresh, words=""):
         """Returns what is run of the part `documents`."""

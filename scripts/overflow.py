@@ -23,6 +23,9 @@ import tempfile
 import threading
 
 ROOT = pathlib.Path(__file__).resolve().parent.parent
+sys.path.insert(0, str(ROOT / "tests"))
+from tap import HUNG  # noqa: E402
+
 WIDTHS = (1280, 400)
 # What is typed into the search, and what it should find first.
 SEARCHES = (("untrusted images", "docs/RECIPES.html#untrusted-images"), ("million keys", "docs/RECIPES.html#a-million-keys"),
@@ -90,7 +93,7 @@ def chromium(*words):
         sys.exit("scripts/overflow.py needs chromium: apt-get install chromium")
     with tempfile.TemporaryDirectory() as profile:
         ran = subprocess.run([name, "--headless=new", "--no-sandbox", "--disable-gpu", "--hide-scrollbars", "--no-first-run",
-                              f"--user-data-dir={profile}", *words], capture_output=True, text=True, timeout=300)
+                              f"--user-data-dir={profile}", *words], capture_output=True, text=True, timeout=HUNG)
     return ran.stdout
 
 

@@ -557,6 +557,9 @@ def go_on_without_text(why):
 
 
 def main():
+    if shutil.which("rt") is None:
+        print("prebuilt.py: the command rt, which proves and compiles, is not on the path (CONTRIBUTING.md)", file=sys.stderr)
+        return 1
     for file in OTHERS.glob("other-*"):
         file.unlink()
     if "--prove" in sys.argv[1:]:

@@ -77,6 +77,7 @@ class PrebuiltTest(unittest.TestCase):
         with unittest.mock.patch.object(prebuilt, "make_all", side_effect=made), \
                 unittest.mock.patch.object(prebuilt, "kit", return_value=prover), \
                 unittest.mock.patch.object(prebuilt, "lib", side_effect=lambda _: (self.others / "libhll_c.a").write_text("a")), \
+                unittest.mock.patch.object(shutil, "which", return_value="rt"), \
                 unittest.mock.patch.dict(os.environ, {"CI": ci}), \
                 unittest.mock.patch.object(sys, "argv", ["prebuilt.py", *words]), \
                 contextlib.redirect_stdout(io.StringIO()) as out:
@@ -378,6 +379,21 @@ a.b.12ab:
         for path in sorted(prebuilt.PREBUILT / text.path for text in prebuilt.TEXTS):
             quoted = [line for line in path.read_text().splitlines() if '"' in line and not prebuilt.DATA.match(line)]
             self.assertEqual([line for line in quoted if not line.startswith("\t.section\t") or line.startswith('\t.section\t"')], [], path)
+
+
+class NoToolchainTest(unittest.TestCase):
+    def test_a_line_says_what_lacks(self):
+        """Nothing is begun, removed or traced back."""
+        with tempfile.TemporaryDirectory() as room:
+            there = pathlib.Path(room, "other-toolchain.s")
+            there.touch()
+            said = io.StringIO()
+            with unittest.mock.patch.dict(os.environ, PATH=room), unittest.mock.patch.object(prebuilt, "OTHERS", pathlib.Path(room)), \
+                    unittest.mock.patch.object(sys, "argv", ["prebuilt.py", "--prove"]), \
+                    contextlib.redirect_stdout(said), contextlib.redirect_stderr(said):
+                self.assertEqual(prebuilt.main(), 1)
+            self.assertTrue(there.exists())
+        self.assertEqual(said.getvalue(), "prebuilt.py: the command rt, which proves and compiles, is not on the path (CONTRIBUTING.md)\n")
 
 
 if __name__ == "__main__":

@@ -21,6 +21,7 @@ import time
 sys.dont_write_bytecode = True
 from built import ROOT, built_program
 from rows import rows_in, texts
+from tap import HUNG
 
 SECONDS = 600
 PIECE = 1 << 16      # the most bytes that one read takes
@@ -37,7 +38,7 @@ class Trial:
     def run(self, more=b"", **numbers):
         """What the program prints on both streams for the plan and more lines, and its status."""
         settings = {"REFUSE_" + name.upper(): str(number) for name, number in numbers.items()}
-        ended = subprocess.run([self.program], input=self.plan + more, capture_output=True, timeout=60,
+        ended = subprocess.run([self.program], input=self.plan + more, capture_output=True, timeout=HUNG,
                                env={**os.environ, "LD_PRELOAD": self.library, **settings})
         self.runs += 1
         return ended.stdout.decode(), ended.stderr.decode(), ended.returncode

@@ -17,6 +17,7 @@ sys.path.insert(0, str(HERE.parent))
 from built import built_program
 from plain_plans import answer_of
 from rows import rows_in, texts
+from tap import HUNG
 
 MOST = 1 << 16
 LIMITS = [0, 1, 3, 4, 6, 8, 9, 21, 22, 62, 63, 64, 2**26 - 1, 2**26, 99999999]
@@ -99,7 +100,7 @@ class Changes:
 
 def printed(program, plan):
     """What the program prints for a plan: its result, or the line of the error."""
-    run = subprocess.run([program], input=plan, capture_output=True, timeout=60)
+    run = subprocess.run([program], input=plan, capture_output=True, timeout=HUNG)
     if run.returncode == 0 and not run.stderr:
         return run.stdout.decode().removesuffix("\n")
     if run.returncode == 1 and not run.stdout:

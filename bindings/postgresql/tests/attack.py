@@ -265,7 +265,7 @@ def plant_later(server, database, own_schema, own):
 
 def taken(server):
     """Where mallory has a function or a type of an extension's name and arguments, CREATE EXTENSION is refused, and calls nothing
-    of mallory's. He can make no function and no aggregate with an argument `internal`."""
+    of mallory's. He can make no function with an argument `internal`, and an aggregate only in minor releases before that of 15.20."""
     new_database(server, "listed")
     equal("installed", install(server, "listed", "public", "public"), "")
     own = sorted(signatures(server, "listed"))
@@ -286,7 +286,10 @@ def taken(server):
     for name, arguments in sorted(without_type(own)):
         if "internal" in arguments and "_recv" not in name:
             said = as_mallory(server, "taken", ["BEGIN;", aggregate("mallory." + name, arguments), "ROLLBACK;"])
-            check("no aggregate %s(%s)" % (name, arguments), len(said) == 1 and "42883" in said[0], said)
+            if said:
+                check("no aggregate %s(%s)" % (name, arguments), len(said) == 1 and "42883" in said[0], said)
+            else:
+                try_taken(server, aggregate("public." + name, arguments), "public", "42723")
 
 
 def aggregate(name, arguments):

@@ -93,6 +93,16 @@ def link_all(source, target, is_own=lambda name: False):
             link.symlink_to(entry)
 
 
+def stats():
+    """What the system says of each process: its number, and the words of /proc/NUMBER/stat from the third on."""
+    for name in filter(str.isdigit, os.listdir("/proc")):
+        try:
+            with open("/proc/%s/stat" % name) as stat:
+                yield int(name), stat.read().rpartition(")")[2].split()
+        except OSError:     # it has ended
+            pass
+
+
 class Server:
     """A server that is up inside `with`."""
 
@@ -225,6 +235,12 @@ class Server:
                 break
             time.sleep(0.1)
         raise RuntimeError("the server did not start:\n" + (self.root / "log").read_text(errors="replace"))
+
+    def time_used(self):
+        """The seconds of processor time of the server's processes, those that have ended included."""
+        own = self.process.pid
+        found = [words for number, words in stats() if own in (number, int(words[1]))]
+        return sum(int(ticks) for words in found for ticks in words[11:15]) / os.sysconf("SC_CLK_TCK")
 
     # ---- questions
 

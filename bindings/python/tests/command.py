@@ -10,6 +10,7 @@ import tempfile
 import unittest
 
 import common
+from tap import HUNG
 
 COMMAND = [sys.executable, "-m", "hll_sketches"]
 TRUNCATED = "image truncated (the bytes end inside what the header asks for)"
@@ -57,7 +58,7 @@ class CommandTest(unittest.TestCase):
         words of another command, which runs this one."""
         done = subprocess.run(
             [*before, *COMMAND, *map(str, words)], input=given, capture_output=True, cwd=self.folder,
-            env=environment(), timeout=60, **more,
+            env=environment(), timeout=HUNG, **more,
         )
         return done.returncode, done.stdout, done.stderr.decode("utf-8", "surrogateescape")
 

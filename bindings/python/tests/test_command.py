@@ -1,5 +1,6 @@
 # SPDX-License-Identifier: Apache-2.0
 """The commands of `hll`: what they write, what they refuse, and how they end."""
+import errno
 import fcntl
 import io
 import json
@@ -27,6 +28,7 @@ from hll_sketches import Sketch, __version__, _library, cli, commands, counting,
 from hll_sketches._errors import explained
 from hll_sketches._names import shown
 from mutants import KINDS, Mutants
+from tap import HUNG
 
 NAMES = "merge info estimate check fold convert diff plot new add count get drop dump load".split()
 
@@ -105,7 +107,7 @@ class LibraryTest(CommandTest):
         path = {"PYTHONPATH": str(self.folder / "copy"), "HLL_SKETCHES_LIBRARY": library or ""}
         done = subprocess.run(
             [*COMMAND, *words], input=b"", capture_output=True, cwd=self.folder,
-            env=dict(environment(), **path), timeout=60,
+            env=dict(environment(), **path), timeout=HUNG,
         )
         shutil.rmtree(self.folder / "copy")
         return done.returncode, done.stdout, done.stderr.decode()
@@ -286,7 +288,7 @@ class AddTest(CommandTest):
             self.succeeds("add", "a.hll", "-o", "b.hll", "--longest-line", longest + (3 if longest < 9 else 1), given=given)
         with open("/dev/zero", "rb") as endless:
             done = subprocess.run([*COMMAND, "add", "--raw", "a.hll"], stdin=endless, cwd=self.folder,
-                                  env=environment(), capture_output=True, timeout=60)
+                                  env=environment(), capture_output=True, timeout=HUNG)
         words = b"hll: standard input: line 1 is longer than 67,108,864 bytes (--longest-line changes this): nothing was counted\n"
         self.assertEqual((done.returncode, done.stdout, done.stderr), (1, b"", words))
         self.assertEqual(self.read("a.hll"), before)
@@ -1008,7 +1010,10 @@ class StreamsTest(CommandTest):
 
     def seen(self, words, given=None, **more):
         """The status of a command, and what a terminal is shown on standard error."""
-        leader, terminal = os.openpty()
+        try:
+            leader, terminal = os.openpty()
+        except OSError as why:
+            self.skipTest(f"no terminal can be opened here, as without /dev/pts ({why.strerror})")
         with open(given or os.devnull, "rb") as stdin:
             done = subprocess.run(words, stdin=stdin, stdout=subprocess.DEVNULL, stderr=terminal, cwd=self.folder,
                                   env=dict(environment(), **more))
@@ -1020,6 +1025,12 @@ class StreamsTest(CommandTest):
             shown = b""
         os.close(leader)
         return done.returncode, shown
+
+    def test_where_no_terminal_is(self):
+        """As in a root without /dev/pts."""
+        with mock.patch.object(os, "openpty", side_effect=OSError(errno.ENODEV, "No such device")), \
+                self.assertRaisesRegex(unittest.SkipTest, "/dev/pts"):
+            self.seen(["true"])
 
     def test_progress(self):
         """A bar is shown where standard error is a terminal and tqdm is there, with the total."""

@@ -13,6 +13,7 @@ import common  # noqa: F401, for the path
 from command import COMMAND, CUT, CommandTest, TRUNCATED, environment, other_user
 from hll_sketches import ImageError, Sketch, files, finding, merge_files
 from hll_sketches._names import shown
+from tap import HUNG
 
 
 def sketch(*values):
@@ -222,7 +223,7 @@ class FoldersTest(CommandTest):
         os.mkfifo(self.folder / "pipe")
         script = " ".join(COMMAND) + " merge pipe -o one.hll & cat a.hll > pipe; wait $!"
         self.write("a.hll", IMAGE)
-        done = subprocess.run(["sh", "-c", script], cwd=self.folder, env=environment(), timeout=60,
+        done = subprocess.run(["sh", "-c", script], cwd=self.folder, env=environment(), timeout=HUNG,
                               capture_output=True)
         self.assertEqual((done.returncode, done.stderr, self.read("one.hll")), (0, b"", IMAGE))
 

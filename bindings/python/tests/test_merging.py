@@ -16,6 +16,7 @@ from unittest import mock
 import common
 from command import COMMAND, CUT, CommandTest, TEXT, TRUNCATED, environment, interruptible, other_user
 from hll_sketches import ArgumentError, Sketch, _library, _workers, files, merging, union_of
+from tap import HUNG
 
 FILES = 300
 COUNTS = (0, 1, 8, 9, 40, 3000, 20_000)
@@ -187,7 +188,7 @@ class MergeTest(LaidOut):
         ))
         done = subprocess.run(
             [sys.executable, "-c", script], input=" ".join(names), capture_output=True, text=True,
-            env=environment(), timeout=60,
+            env=environment(), timeout=HUNG,
         )
         words = "merge: only [0-9]+ of 20 processes can be used: Too many open files"
         wanted = union_of(IMAGES, 12).to_bytes().hex()
@@ -329,7 +330,7 @@ class RefusalsTest(LaidOut):
     def ended(self, running, status):
         """Nothing is said or written, and no process is left."""
         try:
-            out, err = running.communicate(timeout=60)
+            out, err = running.communicate(timeout=HUNG)
         except subprocess.TimeoutExpired:
             os.killpg(running.pid, signal.SIGKILL)
             raise

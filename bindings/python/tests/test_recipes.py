@@ -12,6 +12,7 @@ import unittest
 
 import common
 from command import COMMAND, CommandTest, environment
+from tap import HUNG
 
 PAGE = common.ROOT / "docs" / "RECIPES.md"
 LIBRARY = common.ROOT / "bindings" / "c" / "build" / "libhll.a"
@@ -84,7 +85,7 @@ class RecipesTest(CommandTest):
         """A command that has ended, with what it wrote."""
         return subprocess.run(
             words, stdout=subprocess.PIPE, stderr=stderr, cwd=self.folder, env=self.environment,
-            timeout=300, text=True,
+            timeout=HUNG, text=True,
         )
 
     def shell(self, command):

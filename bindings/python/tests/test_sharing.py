@@ -22,6 +22,7 @@ import common
 from hll_sketches import ArgumentError, ImageError, PrecisionError, Sketch, SketchUnion
 from hll_sketches import _library, _locks, coupons, union_of
 from long_searches import stride_coupons, unsorted_set
+from tap import HUNG
 
 
 def sketch(values, lg_k=12):
@@ -256,7 +257,7 @@ class ForksTest(unittest.TestCase):
         """Forks, and calls in the child, which is ended where it hangs."""
         process = os.fork()
         if process == 0:
-            signal.alarm(20)
+            signal.alarm(HUNG)
             status = 1
             try:
                 child()
@@ -344,7 +345,7 @@ bad = 0
 for _ in range(30):
     child = os.fork()
     if child == 0:
-        signal.alarm(20)
+        signal.alarm(int(sys.argv[2]))
         sketch.update("child")
         union.update(sketch)
         answer = union.sketch().estimate()
@@ -353,8 +354,8 @@ for _ in range(30):
 is_over = True
 print(bad)
 """
-        words = [sys.executable, "-W", "ignore", "-c", code, str(common.PACKAGE)]
-        done = subprocess.run(words, capture_output=True, text=True, timeout=300)
+        words = [sys.executable, "-W", "ignore", "-c", code, str(common.PACKAGE), str(HUNG)]
+        done = subprocess.run(words, capture_output=True, text=True, timeout=HUNG)
         self.assertEqual((done.stdout, done.stderr), ("0\n", ""))
 
     def test_a_lock_is_renewed_once(self):

@@ -6,6 +6,7 @@ import functools
 import os
 import pathlib
 import random
+import resource
 import signal
 import stat
 import subprocess
@@ -18,6 +19,7 @@ import common  # noqa: F401, for the path
 from command import COMMAND, CommandTest, environment, interruptible
 from hll_sketches import Sketch, files, merging
 from long_searches import stride_coupons, unsorted_set
+from tap import HUNG
 
 TICK = 1 / os.sysconf("SC_CLK_TCK")
 BEFORE, AFTER = b"as it was", Sketch(12).to_bytes()
@@ -73,6 +75,12 @@ def seconds_of(process):
     return (int(words[11]) + int(words[12])) * TICK
 
 
+def seconds_of_children():
+    """The processor time of all processes that this one has started, and that have ended."""
+    used = resource.getrusage(resource.RUSAGE_CHILDREN)
+    return used.ru_utime + used.ru_stime
+
+
 def started(folder, words, **more):
     """A process in a group of its own."""
     return subprocess.Popen(
@@ -122,6 +130,7 @@ class LongCallTest(CommandTest):
 
     def interrupted(self, number, to_group, jobs, *words):
         """Starts a command, and ends it once all its processes have long been inside a call."""
+        before = seconds_of_children()
         running = started(self.folder, [*COMMAND, *words])
         self.addCleanup(end, running)
 
@@ -129,17 +138,18 @@ class LongCallTest(CommandTest):
             working = children_of(running.pid) if jobs > 1 else [running.pid]
             return len(working) == jobs and all(seconds_of(one) > 0.5 for one in working)
 
-        is_there = waited(lambda: is_inside() or running.poll() is not None, 30)
+        is_there = waited(lambda: is_inside() or running.poll() is not None, HUNG)
         self.assertTrue(is_there and running.poll() is None, "it is inside a call")
         time.sleep(0.2)
         (os.killpg if to_group else os.kill)(running.pid, number)
-        self.check_ended(running, -number, 1)
+        self.check_ended(running, -number)
+        self.assertLess(seconds_of_children() - before, 3 * jobs, "processor time, of which the whole takes twice as much")
 
-    def check_ended(self, running, status, seconds):
-        """It ends in time by the signal, says nothing, and leaves no process and no file."""
-        out, err = running.communicate(timeout=seconds)
+    def check_ended(self, running, status):
+        """It ends by the signal, says nothing, and leaves no process and no file."""
+        out, err = running.communicate(timeout=HUNG)
         self.assertEqual((running.returncode, out, err), (status, b"", b""))
-        self.assertTrue(waited(lambda: not is_alive(running.pid), seconds), "a child is left")
+        self.assertTrue(waited(lambda: not is_alive(running.pid), HUNG), "a child is left")
         self.assertEqual((self.read("one.hll"), self.listed()), (BEFORE, self.before))
 
     def test_one_process(self):
@@ -169,7 +179,7 @@ class WritingTest(CommandTest):
         code = before + sent + MAIN
         words = [sys.executable, "-c", code, "new", "one.hll", "--force"]
         running = started(self.folder, words)
-        out, err = running.communicate(timeout=60)
+        out, err = running.communicate(timeout=HUNG)
         self.assertEqual((out, err, self.listed()), (b"", b"", ["one.hll"]), (step, when))
         return running.returncode, self.read("one.hll")
 
@@ -213,7 +223,7 @@ class WritingTest(CommandTest):
             moment = numbers.uniform(0.3, 1.05) * whole
             time.sleep(moment)
             running.send_signal(signal.SIGTERM)
-            running.communicate(timeout=60)
+            running.communicate(timeout=HUNG)
             self.assertIn(running.returncode, (-signal.SIGTERM, 0))
             self.assertIn(self.read("one.hll"), (BEFORE, new))
             self.assertEqual(self.listed(), ["days", "one.hll"])
