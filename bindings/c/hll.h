@@ -76,7 +76,10 @@
  *     - A pointer points to as many bytes (or elements) as its length says. It may be NULL if that length is 0. No other
  *       pointer may be NULL, except failed, and the lg_k that HLL_COARSER sets.
  *     - out, size, failed, info, histogram, same, coupons, estimation, a state, and registers that a call changes, with its
- *       lg_k, overlap nothing else that is passed. Inputs may overlap each other: an image can be merged with itself.
+ *       lg_k, overlap nothing else that is passed. Inputs may overlap each other: an image can be merged with itself. Where out
+ *       overlapped the image in tests, no call wrote outside its buffer. With out == image the result was right, but
+ *       elsewhere hll_image_add, hll_image_add_coupon and hll_image_convert returned HLL_OK and wrote wrong bytes, some of
+ *       which were no image. None of this is proved.
  *     - Inputs don't change during a call. If another thread writes an end meanwhile, the call may read outside the bytes.
  *     - malloc, realloc and free belong to one allocator, and align to 16 bytes.
  *     - No call is made from a signal handler, or in the child of a fork of a process with threads, because calls use malloc.

@@ -60,6 +60,34 @@ static void test_writer(const struct writer *writer, bytes image)
     free(wanted.at);
 }
 
+/* The buffer overlaps the image, which hll.h forbids. What it says of this holds: with out == image the result is right, and
+ * elsewhere no byte outside the buffer changes. */
+static void test_overlap(const struct writer *writer, bytes image)
+{
+    static const int shifts[] = {0, 1, -1, 8, -8, 39, -39, 100, -100};
+    size_t most = HLL_IMAGE_MAX(12), len = 2 * most + 400, i;
+    bytes wanted = with_room(most), place = with_room(len);
+    need(image.len <= most, "an image of lg_k 12");
+    need(writer->call(image.at, image.len, wanted.at, most, &wanted.len) == HLL_OK, writer->name);
+    for (i = 0; i < sizeof shifts / sizeof *shifts; i++) {
+        size_t at = 200, out = (size_t)(200 + shifts[i]), size = 0, j;
+        hll_status status;
+        prepare(place.at, len);
+        memcpy(place.at + at, image.at, image.len);
+        status = writer->call(place.at + at, image.len, place.at + out, most, &size);
+        if (shifts[i] == 0)
+            CHECK(status == HLL_OK && size == wanted.len && memcmp(place.at + out, wanted.at, size) == 0, "%s in place",
+                  writer->name);
+        for (j = 0; j < len; j++)
+            if ((j < out || out + most <= j) &&
+                place.at[j] != (at <= j && j < at + image.len ? image.at[j - at] : before(j)))
+                break;
+        CHECK(j == len, "%s wrote outside its buffer, which is %d bytes from the image", writer->name, shifts[i]);
+    }
+    free(wanted.at);
+    free(place.at);
+}
+
 /* An image of registers of 4 bits that all may be exceptions but one, the most that HLL_IMAGE_MAX speaks of. */
 static void test_exceptions(uint8_t lg_k)
 {
@@ -84,8 +112,10 @@ int main(int argc, char **argv)
     for (width = 4; width <= 8; width += 2) {
         for (stage = 0; stage < 3; stage++) {
             bytes image = image_of_values(12, (uint8_t)width, 7, values_of_stage[stage]);
-            for (i = 0; i < WRITERS; i++)
+            for (i = 0; i < WRITERS; i++) {
                 test_writer(&writers[i], image);
+                test_overlap(&writers[i], image);
+            }
             free(image.at);
         }
         if (!small) {
