@@ -4,7 +4,7 @@
 
     tests/soak.py MINUTES [--seed N] [--only LANE ..] [--plant lost|memory]
 
-Meanwhile it kills processes, fills disks, and cancels queries, at random. After each round of some seconds nothing may be lost that was confirmed, and
+Meanwhile it kills processes, fills disks, cancels queries, and lets calls of the system fail, at random. After each round of some seconds nothing may be lost that was confirmed, and
 nothing may be there that failed: each register of each sketch has to be that of the model (docs/FORMAT.md, tests/soaks/lanes.py). The memory of
 processes that live long has to stay as it is. Prints what each lane did, and 'N passed, M failed' at the end.
 
@@ -25,11 +25,13 @@ import time
 sys.dont_write_bytecode = True
 HERE = pathlib.Path(__file__).resolve().parent
 sys.path.insert(0, str(HERE / "soaks"))
-LANES = {"postgresql": ("postgresql_lane", "Postgresql"), "sqlite": ("sqlite_lane", "Sqlite"), "dask": ("dask_lane", "Dask"), "hll": ("commands_lane", "Commands")}
+LANES = {"postgresql": ("postgresql_lane", "Postgresql"), "sqlite": ("sqlite_lane", "Sqlite"), "dask": ("dask_lane", "Dask"), "hll": ("commands_lane", "Commands"),
+         "faults": ("faults_lane", "Faults")}
 SERVER = [str(HERE), str(HERE.parent / "bindings" / "postgresql" / "tests")]
 NEEDS = {"postgresql": "import sys; sys.path[:0] = %r; import server; server.find_tools(); server.find_pg_config()" % (SERVER,),
          "sqlite": "import sqlite3, sys; sys.exit(not hasattr(sqlite3.Connection, 'load_extension'))",
-         "dask": "import distributed, fsspec", "hll": ""}
+         "dask": "import distributed, fsspec", "hll": "",
+         "faults": "import subprocess, sys; sys.exit(subprocess.call(['strace', '-o', '/dev/null', 'true']))"}
 
 
 def python_for(lane):

@@ -15,7 +15,7 @@ os.environ["PATH"] = os.environ.get("PATH", "/usr/bin:/bin") + ":/usr/sbin:/sbin
 
 HUNG = 3600
 """The seconds after which something that is waited for hangs, or the machine is asleep. A machine that is merely busy is faster. What
-may take only so long is limited by its processor time."""
+may take only so long is limited by its CPU time."""
 
 
 class Tap:

@@ -1,5 +1,5 @@
 # SPDX-License-Identifier: Apache-2.0
-"""How long a part may take: by processor time, since others may use the machine, too."""
+"""How long a part may take: by CPU time, since others may use the machine, too."""
 import os
 import signal
 import time
@@ -7,12 +7,12 @@ import time
 from report import check, equal
 from tap import HUNG
 
-MINUTES = 10        # of processor time at most, for a part
+MINUTES = 10        # of CPU time at most, for a part
 LOOKS = 2           # seconds between two looks
 
 
 def time_used(server):
-    """The seconds of processor time of the server, of this process, and of what both have started."""
+    """The seconds of CPU time of the server, of this process, and of what both have started."""
     return server.time_used() + sum(os.times()[:4])
 
 
@@ -22,7 +22,7 @@ def run(part, server, minutes=MINUTES, hung=HUNG, looks=LOOKS):
 
     def look(*_):
         if time_used(server) - used > 60 * minutes:
-            raise TimeoutError("it takes more than %g minutes of processor time" % minutes)
+            raise TimeoutError("it takes more than %g minutes of CPU time" % minutes)
         if time.monotonic() - begun > hung:
             raise TimeoutError("it hangs, or the machine was asleep")
 
@@ -44,10 +44,10 @@ def ended(server, sql, **limits):
 
 
 def limits(server):
-    """A part is ended by the processor time of the server; one that sleeps, by the clock alone."""
+    """A part is ended by the CPU time of the server; one that sleeps, by the clock alone."""
     equal("a server that waits", ended(server, "SELECT pg_sleep(3)", minutes=0.04), None)
     for name, sql, limit, why in (
-        ("a busy server", "SELECT sum(sqrt(i)) FROM generate_series(1, 1000000000) i", {"minutes": 0.005}, "it takes more than 0.005 minutes of processor time"),
+        ("a busy server", "SELECT sum(sqrt(i)) FROM generate_series(1, 1000000000) i", {"minutes": 0.005}, "it takes more than 0.005 minutes of CPU time"),
         ("a server that waits for ever", "SELECT pg_sleep(7200)", {"hung": 0.2}, "it hangs, or the machine was asleep"),
     ):
         equal(name, ended(server, sql, **limit), why)

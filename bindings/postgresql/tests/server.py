@@ -237,7 +237,7 @@ class Server:
         raise RuntimeError("the server did not start:\n" + (self.root / "log").read_text(errors="replace"))
 
     def time_used(self):
-        """The seconds of processor time of the server's processes, those that have ended included."""
+        """The seconds of CPU time of the server's processes, those that have ended included."""
         own = self.process.pid
         found = [words for number, words in stats() if own in (number, int(words[1]))]
         return sum(int(ticks) for words in found for ticks in words[11:15]) / os.sysconf("SC_CLK_TCK")

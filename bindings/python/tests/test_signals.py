@@ -76,7 +76,7 @@ def seconds_of(process):
 
 
 def seconds_of_children():
-    """The processor time of all processes that this one has started, and that have ended."""
+    """The CPU time of all processes that this one has started, and that have ended."""
     used = resource.getrusage(resource.RUSAGE_CHILDREN)
     return used.ru_utime + used.ru_stime
 
@@ -143,7 +143,7 @@ class LongCallTest(CommandTest):
         time.sleep(0.2)
         (os.killpg if to_group else os.kill)(running.pid, number)
         self.check_ended(running, -number)
-        self.assertLess(seconds_of_children() - before, 3 * jobs, "processor time, of which the whole takes twice as much")
+        self.assertLess(seconds_of_children() - before, 3 * jobs, "CPU time, of which the whole takes twice as much")
 
     def check_ended(self, running, status):
         """It ends by the signal, says nothing, and leaves no process and no file."""
