@@ -3,7 +3,7 @@
 """Makes the first inputs of the fuzz target from the test vectors and the walks: corpus.py DIRECTORY.
 
 Each plan is one input: its images, its coupons added to a state, to a counter and to registers, and its unions. More inputs are
-sequences of calls on states and counters with such images, by a seeded generator. A file is named by the checksum of its bytes, as
+sequences of calls on states, on counters and of C++ with such images, by a seeded generator. A file is named by the checksum of its bytes, as
 libFuzzer names files.
 """
 import hashlib
@@ -17,7 +17,7 @@ sys.dont_write_bytecode = True
 sys.path.insert(0, str(pathlib.Path(__file__).resolve().parent.parent))
 from rows import rows_in, texts
 
-IMAGE, UNION, CHAIN, REGISTERS, STATE, COUNTER = 0, 2, 3, 4, 5, 7
+IMAGE, UNION, CHAIN, REGISTERS, STATE, COUNTER, CPP = 0, 2, 3, 4, 5, 7, 16
 IMAGES = 8
 
 
@@ -97,7 +97,7 @@ def sequences(plans):
     chance = random.Random(1)
     found = {digits for plan in plans for digits in re.findall(rb"^image ((?:[0-9a-f]{2}){8,2000})$", plan, re.M)}
     images = [bytes.fromhex(digits.decode()) for digits in sorted(found)]
-    return {sequence(chance, kind, chance.sample(images, 3), calls) for kind, calls in ((STATE, 13), (COUNTER, 15)) for _ in range(500)}
+    return {sequence(chance, kind, chance.sample(images, 3), calls) for kind, calls in ((STATE, 13), (COUNTER, 15), (CPP, 32)) for _ in range(500)}
 
 
 def main():

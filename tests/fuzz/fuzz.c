@@ -145,6 +145,8 @@ static void carry_out(world *w, const record *r)
     heap.fail_from = failing[r->op >> 5];
     if (r->op % 32 == 8)
         on_values(w, r);
+    else if (r->op % 32 == 16)
+        on_cpp(w, r);
     else
         parts[r->op % 8](w, r);
 }

@@ -140,6 +140,7 @@ void on_values(world *w, const record *r);
 void on_registers(world *w, const record *r);
 void on_state(world *w, const record *r);
 void on_counter(world *w, const record *r);
+void on_cpp(world *w, const record *r);
 
 /* Joins the sketch of y as a state does. Returns 0, or HLL_OTHER_LG_K if it is not joined. */
 int plain_join(plain *x, unsigned lg_max_k, const plain *y);

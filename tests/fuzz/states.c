@@ -292,6 +292,12 @@ static void check_join_state(world *w, int i, unsigned lg_max_k)
 
 /* ---- reading ---- */
 
+/* Whether the first number is that of a state, but for its kind and its version. */
+static int is_of_another_version(const uint8_t *state)
+{
+    return state[1] == 0x4c && state[2] == 0x48 && state[3] != 2;
+}
+
 static void check_state_info(const world *w, int i)
 {
     before b = look(w, i);
@@ -308,6 +314,12 @@ static void check_state_info(const world *w, int i)
         CHECK(registers || said.is_empty == (b.s.used == 0), "empty %d", said.is_empty);
     }
     check_unchanged("hll_state_info", w, i, &b);
+    begin();
+    (void)ended("hll_state_check", hll_state_check(w->states[i], w->rooms[i]),
+                b.is_state                                                            ? HLL_OK
+                : w->rooms[i] >= HLL_STATE_NEW && is_of_another_version(w->states[i]) ? HLL_STATE
+                                                                                      : HLL_ARGUMENT);
+    check_unchanged("hll_state_check", w, i, &b);
     free_before(&b);
 }
 

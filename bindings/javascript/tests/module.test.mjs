@@ -155,7 +155,7 @@ test("arguments", () => {
   for (const options of ["12", 12n, true, null, fine, [12]]) assert.throws(() => new Union(options), TypeError);
   assert.throws(() => new Sketch(12).merge(new Sketch(12).add(1), 3), rejects("argument"));
   assert.equal(version, "0.2.0");
-  assert.equal(REASONS.length, 18);
+  assert.equal(REASONS.length, 19);
 });
 
 test("a memory that grows during a call", async () => {

@@ -2,16 +2,20 @@
 # SPDX-License-Identifier: Apache-2.0
 """Writes random images, of which more than half are damaged, and what the native library says of each, for cases.mjs:
 
-    native_cases.py LIBHLL.so IMAGES SEED OUT
+    native_cases.py LIBHLL.so IMAGES SEED OUT [INPUTS ..]
+
+With directories of inputs of the fuzz target (tests/fuzz/fuzz.c), the images are those in these inputs, at most so many.
 
 A case is a number for the call, two numbers that it gets, one or two strings of bytes, its status, and what it wrote.
 """
 import ctypes
+import pathlib
 import random
 import struct
 import sys
 
-LIBRARY, IMAGES, SEED, OUT = sys.argv[1:]
+LIBRARY, IMAGES, SEED, OUT, *INPUTS = sys.argv[1:]
+LARGEST = 14    # the lg_k of the images of inputs: others take long
 lib = ctypes.CDLL(LIBRARY)
 chance = random.Random(int(SEED))
 Size, Bytes, Number = ctypes.c_size_t, ctypes.c_char_p, ctypes.c_uint
@@ -135,6 +139,31 @@ def damaged(image):
     return bytes(made)
 
 
+def random_images():
+    """Yields random images, of which more than half are damaged."""
+    for _ in range(int(IMAGES)):
+        image, kind = correct(), chance.random()
+        if kind >= 0.45:
+            image = damaged(image) if kind < 0.97 else chance.randbytes(chance.randrange(60))
+        yield image
+
+
+def contents(data):
+    """Yields the bytes of each record of an input."""
+    while len(data) >= 6:
+        end = 6 + int.from_bytes(data[4:6], "little")
+        yield data[6:end]
+        data = data[end:]
+
+
+def images_of_inputs():
+    """Returns the bytes in inputs that begin as an image, but for one byte at most."""
+    inputs = (file.read_bytes() for folder in INPUTS for file in sorted(pathlib.Path(folder).iterdir()))
+    found = {content for data in inputs for content in contents(data) if len(content) >= 4 and content[3] <= LARGEST}
+    images = sorted(content for content in found if (content[0] in (2, 3, 10)) + (content[1] == 1) + (content[2] == 7) >= 2)
+    return chance.sample(images, min(int(IMAGES), len(images)))
+
+
 # ---- cases
 
 
@@ -161,18 +190,16 @@ def cases_of(image, before):
 
 
 def main():
-    before, count = written("hll_image_new", Number(10), Number(8))[1], 0
+    before, count, images = written("hll_image_new", Number(10), Number(8))[1], 0, 0
     with open(OUT, "wb") as file:
-        for _ in range(int(IMAGES)):
-            image, kind = correct(), chance.random()
-            if kind >= 0.45:
-                image = damaged(image) if kind < 0.97 else chance.randbytes(chance.randrange(60))
+        for image in images_of_inputs() if INPUTS else random_images():
+            images += 1
             for name, a, b, second, (status, found) in cases_of(image, before):
                 file.write(struct.pack("<BIIIIBI", NAMES.index(name), a, b, len(image), len(second), status, len(found)) + image + second + found)
                 count += 1
             if call("hll_image_check", *passed(image)) == 0:
                 before = image
-    print(count, "cases of", IMAGES, "images")
+    print(count, "cases of", images, "images")
 
 
 main()
