@@ -1,7 +1,7 @@
 # SPDX-License-Identifier: Apache-2.0
 #
-#   make                    builds the C library, the programs in bin/, and the extensions for SQLite and PostgreSQL where their
-#                           headers are here. It needs a C compiler, and takes seconds
+#   make                    builds the C library, the programs in bin/, the module that splits lines for the command hll, and the
+#                           extensions for SQLite and PostgreSQL where their headers are here. It needs a C compiler, and takes seconds
 #   make install            installs the C library, the programs and the extension for SQLite into PREFIX (/usr/local), below
 #                           DESTDIR if that is set
 #   make install-postgresql installs the PostgreSQL extension where the server of PG_CONFIG (pg_config) looks for it
@@ -33,6 +33,8 @@ POSTGRESQL := bindings/postgresql
 endif
 # The programs are for Linux on x86-64 and 64-bit ARM, and the extension for SQLite is for Linux.
 PROGRAMS := $(if $(and $(findstring linux,$(MACHINE)),$(filter x86_64-% aarch64-%,$(MACHINE))),programs)
+# The module that splits lines is for Linux. pip builds it where it installs the package.
+PYTHON := $(if $(findstring linux,$(MACHINE)),bindings/python)
 # In this order, so that the last lines of `make install` are those of the C library: what is left to do.
 PARTS := $(PROGRAMS) $(SQLITE) bindings/c
 # Asked once for all parts, unless a source has changed: then the first part proves, and the next one asks again.
@@ -42,7 +44,7 @@ FOUND := $(STATE:%=STATE=%)
 .PHONY: all install uninstall install-postgresql uninstall-postgresql prove texts dist release html page check clean
 
 all clean:
-	set -e; for part in $(PARTS) $(POSTGRESQL); do $(MAKE) -C $$part $@ $(FOUND); done
+	set -e; for part in $(PARTS) $(PYTHON) $(POSTGRESQL); do $(MAKE) -C $$part $@ $(FOUND); done
 
 install uninstall:
 	set -e; for part in $(PARTS); do $(MAKE) -C $$part $@ $(FOUND); done

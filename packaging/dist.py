@@ -255,10 +255,13 @@ def put_wheel(dist, room, wheel):
     """A wheel for a system, from the source package. Returns the name of its file."""
     tree = unpacked(dist, room)
     run(["make", "-s", "-C", "bindings/c", "CFLAGS=-O2", *(word.replace("@TREE@", str(tree)) for word in wheel.words or ["all"])], tree)
-    library = tree / "bindings" / "c" / wheel.library
+    library, lines = tree / "bindings" / "c" / wheel.library, ""
+    if wheel.has_module:
+        run(["make", "-s", "-C", "bindings/python", "CFLAGS=-O2", *wheel.words], tree)
+        lines = str(tree / "bindings" / "python" / pathlib.Path(wheel.library).with_name(wheels.MODULE))
     run([PYTHON, "-B", "scripts/links.py", "--installed", "bindings/python"], tree)      # the README describes the wheel, alone
     run([PYTHON, "-m", "pip", "wheel", "-q", "--no-build-isolation", "--no-deps", "--no-index", "--no-cache-dir", "-w", room / "wheels",
-         tree / "bindings" / "python"], tree, LIBHLL=str(library), HLL_TRIED=wheel.tried, PYTHONDONTWRITEBYTECODE="1")
+         tree / "bindings" / "python"], tree, LIBHLL=str(library), LIBHLL_LINES=lines, HLL_TRIED=wheel.tried, PYTHONDONTWRITEBYTECODE="1")
     (file,) = (room / "wheels").iterdir()
     shutil.copyfile(file, dist / file.name)
     return file.name

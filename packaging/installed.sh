@@ -33,6 +33,10 @@ version=$(hll --version | cut -d' ' -f2)
 ! hll_merge --other 2>said && [ "$(wc -l <said)" -eq 1 ]
 echo 'ok: versions of the commands'
 
+python3 -c 'from hll_sketches import _splitter as s; import sys; sys.exit(not s.is_here())'
+[ "$(seq 1 1000 | hll count)" = "$(seq 1 1000 | HLL_SKETCHES_LINES='' hll count)" ]
+echo 'ok: lines are split in C'
+
 [ "$(printf 'new 10 8\ncoupon 5 3\n' | hll_merge | hll_estimator_fields)" = 0201070a030801080500000c ]
 echo 'ok: a plan'
 

@@ -93,7 +93,7 @@ def texts_in(package):
         return library(wheel.text)
     if package.name.startswith("hll-sketches_"):
         return ["x86_64/hll_merge.s", "x86_64/hll_estimator_fields.s"]
-    return [] if package.name.endswith("_all.deb") else library("x86_64")
+    return [] if package.name.startswith("python3-") else library("x86_64")
 
 
 def contents(package):
@@ -126,7 +126,7 @@ def tools(package, root):
         yield part("binaryen", prebuilt.committed().wasm.rpartition(" ")[2], comment="lowers the module to a 32-bit memory, and optimizes it")
     python = ["/usr/bin/python3", "-c", "import sys, importlib; print(importlib.import_module(sys.argv[1]).__version__)"]
     asked = {compiler_of(package): ["-dumpversion"], "as": ["--version"], "ld": ["--version"]}
-    asked = {name: [name, *words] for name, words in asked.items() if not package.name.endswith("_all.deb")}
+    asked = {name: [name, *words] for name, words in asked.items()}
     if package.suffix == ".deb":
         asked["dpkg-buildpackage"] = ["dpkg-buildpackage", "--version"]
     if package.suffix == ".whl":

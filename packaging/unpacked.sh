@@ -10,6 +10,8 @@ case $(/tmp/venv/bin/python -c 'import hll_sketches as h; s = h.Sketch(); s.upda
 9[5-9]?' /tmp/venv/'* | 10[0-4]?' /tmp/venv/'*) ;;
 *) exit 1 ;;
 esac
+/tmp/venv/bin/python -c 'from hll_sketches import _splitter as s; import sys; sys.exit(not s.is_here())'
+[ "$(seq 1 1000 | /tmp/venv/bin/hll count)" = "$(seq 1 1000 | HLL_SKETCHES_LINES='' /tmp/venv/bin/hll count)" ]
 echo 'ok: the wheel'
 
 mkdir /tmp/sources

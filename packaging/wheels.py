@@ -18,12 +18,18 @@ class Wheel:
     tried: str      # where it was tried, in a sentence
 
     @property
+    def has_module(self):
+        """Whether it has the module that splits lines, which is for Linux."""
+        return self.magic == ELF
+
+    @property
     def is_in_checkout(self):
         """Whether a checkout has the text."""
         return "-" not in self.text
 
 
 RISCV, WINDOWS = "riscv64-unknown-linux-gnu", "x86_64-w64-mingw32"
+MODULE = "libhll_lines.so.1"
 ELF, MACHO = b"\x7fELF", b"\xcf\xfa\xed\xfe"
 X86, ARM = b"\x3e\x00", b"\xb7\x00"
 

@@ -1,9 +1,11 @@
 # SPDX-License-Identifier: Apache-2.0
-"""Builds the package with the shared library of the checkout inside.
+"""Builds the package with the shared library of the checkout inside, and on Linux the module that splits lines.
 
 The library is built by `make` from assembler text (prebuilt/README.md), which takes a C compiler and
 a second. LIBHLL in the environment names another library; where it is empty, none is put inside, and
 the package takes the system's. Without a library that can be built or was named, nothing is built.
+The module is built with the library. Where LIBHLL is set, LIBHLL_LINES names the module, or there is none:
+then the package splits lines in Python.
 A wheel with a library is for one operating system and kind of processor, and for each Python 3. Its
 name says which, by what the library is, also if that is for another system than this one.
 
@@ -24,12 +26,18 @@ try:
 except ImportError:  # before setuptools 70.1
     from wheel.bdist_wheel import bdist_wheel
 
-C = pathlib.Path(__file__).resolve().parent.parent / "c"
+HERE = pathlib.Path(__file__).resolve().parent
+C = HERE.parent / "c"
 NAMED = os.environ.get("LIBHLL")
 HAS_LIBRARY = NAMED != ""
 INSIDE = {"win32": "hll.dll", "darwin": "libhll.dylib"}.get(sys.platform, "libhll.so")
 """The name of the library in the package, on this system."""
 LIBRARY = pathlib.Path(NAMED) if NAMED else C / "build" / INSIDE
+LINES = "libhll_lines.so.1"
+"""The name of the module that splits lines, in the package."""
+NAMED_LINES = os.environ.get("LIBHLL_LINES")
+HAS_LINES = bool(NAMED_LINES) or NAMED is None and sys.platform == "linux"
+MODULE = pathlib.Path(NAMED_LINES) if NAMED_LINES else HERE / "build" / LINES
 MACHINES = {"Advanced Micro Devices X86-64": "x86_64", "AArch64": "aarch64", "RISC-V": "riscv64"}
 OF_GLIBC = {"libc.so.6", "libm.so.6", "ld-linux-riscv64-lp64d.so.1"}
 OLDEST = 17
@@ -47,19 +55,20 @@ def of_windows_or_macos(library):
     return None
 
 
-def platform_of(library):
-    """The platform's tag of the shared library: manylinux by the newest symbol of glibc that it
-    calls, if it needs no other library (PEP 600), or musllinux (PEP 656); or None if that can't be
+def platform_of(libraries):
+    """The platform's tag of shared libraries: manylinux by the newest symbol of glibc that they
+    call, if they need no other library (PEP 600), or musllinux (PEP 656); or None if that can't be
     known."""
-    other = of_windows_or_macos(library)
+    other = of_windows_or_macos(libraries[0])
     if other:
         return other[0]
-    words = ["readelf", "-hdVW", str(library)]
+    words = ["readelf", "-hdVW", *map(str, libraries)]
     try:
         said = subprocess.run(words, capture_output=True, text=True, check=True).stdout
     except (OSError, subprocess.CalledProcessError):
         return None
-    machine = MACHINES.get(re.search(r"Machine: +(.*)", said)[1])
+    machines = {MACHINES.get(machine) for machine in re.findall(r"Machine: +(.*)", said)}
+    machine = machines.pop() if len(machines) == 1 else None
     needed = set(re.findall(r"\(NEEDED\).*\[(.*)\]", said))
     symbols = [int(minor) for minor in re.findall(r"Name: GLIBC_2\.(\d+)", said)]
     if machine and needed == {"libc.so"}:
@@ -79,39 +88,50 @@ def build_library():
     missing = [tool for tool in ("make", os.environ.get("CC", "cc")) if not shutil.which(tool)]
     if missing:
         sys.exit("hll_sketches: %s is needed to build the C library" % " and ".join(missing))
-    done = subprocess.run(["make", "-s", "-C", str(C), "build/%s" % INSIDE])
+    make(C, INSIDE, "C library")
+    if HAS_LINES:
+        make(HERE, LINES, "module that splits lines")
+
+
+def make(place, name, what):
+    """Builds a file in the directory build/ of a place, or ends with a line."""
+    done = subprocess.run(["make", "-s", "-C", str(place), "build/%s" % name])
     if done.returncode:
-        sys.exit("hll_sketches: the C library can't be built in %s" % C)
+        sys.exit("hll_sketches: the %s can't be built in %s" % (what, place))
+
+
+def put_inside(package, name, file):
+    """Puts a file into the package that is built, or takes away that of an earlier build where there is no file."""
+    if file is not None:
+        shutil.copyfile(file, package / name)
+    elif (package / name).exists():
+        (package / name).unlink()
 
 
 class BuildWithLibrary(build_py):
     def run(self):
         super().run()
         package = pathlib.Path(self.build_lib, "hll_sketches")
-        inside = package / INSIDE
-        if HAS_LIBRARY:
-            if NAMED is None:
-                build_library()
-            other = of_windows_or_macos(LIBRARY)
-            if not getattr(self, "editable_mode", False):
-                shutil.copyfile(LIBRARY, package / other[1] if other else inside)
-            if os.environ.get("HLL_TRIED"):
-                (package / "TRIED").write_text(os.environ["HLL_TRIED"] + "\n")
-        elif inside.exists():
-            inside.unlink()  # of an earlier build
+        if NAMED is None:
+            build_library()
+        if not getattr(self, "editable_mode", False):
+            other = HAS_LIBRARY and of_windows_or_macos(LIBRARY)
+            put_inside(package, other[1] if other else INSIDE, LIBRARY if HAS_LIBRARY else None)
+            put_inside(package, LINES, MODULE if HAS_LINES else None)
+        if HAS_LIBRARY and os.environ.get("HLL_TRIED"):
+            (package / "TRIED").write_text(os.environ["HLL_TRIED"] + "\n")
 
 
 class Package(Distribution):
     def has_ext_modules(self):
-        return HAS_LIBRARY
+        return HAS_LIBRARY or HAS_LINES
 
 
 class WheelOfAllVersions(bdist_wheel):
     def get_tag(self):
         _, _, platform = super().get_tag()
-        if HAS_LIBRARY:
-            platform = platform_of(LIBRARY) or platform
-        return "py3", "none", platform
+        inside = [LIBRARY] * HAS_LIBRARY + [MODULE] * HAS_LINES
+        return "py3", "none", inside and platform_of(inside) or platform
 
 
 commands = {"build_py": BuildWithLibrary, "bdist_wheel": WheelOfAllVersions}

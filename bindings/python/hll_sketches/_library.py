@@ -18,7 +18,7 @@ from ctypes import POINTER, byref, c_char_p, c_double, c_size_t, c_void_p
 from ctypes import c_uint, c_uint8, c_uint32, c_uint64
 from itertools import accumulate
 from operator import index
-from typing import TYPE_CHECKING, Callable, Dict, Iterable, List, Optional, Sequence, SupportsIndex
+from typing import TYPE_CHECKING, Any, Callable, Dict, Iterable, List, Optional, Sequence, SupportsIndex
 from typing import Tuple, Type, TypeVar, cast
 
 from ._errors import ArgumentError, ImageError
@@ -229,6 +229,7 @@ _CALLS: Dict[str, Tuple[object, Sequence[object]]] = {
     "hll_registers_image": (c_uint8, [c_void_p, c_size_t, c_uint, c_void_p, c_size_t, c_void_p]),
     "hll_counter_init": (c_uint8, [c_void_p, c_uint, c_void_p, c_void_p]),
     "hll_counter_free": (None, [c_void_p]),
+    "hll_counter_add": (c_uint8, [c_void_p, c_char_p, c_size_t]),
     "hll_counter_join": (c_uint8, [c_void_p, c_char_p, c_size_t]),
     "hll_counter_copy": (c_uint8, [c_void_p, c_void_p]),
     "hll_counter_settle": (c_uint8, [c_void_p]),
@@ -245,7 +246,7 @@ _CALLS: Dict[str, Tuple[object, Sequence[object]]] = {
 # end of what scripts/calls.py writes
 
 
-def _is_in_checkout(package: pathlib.Path) -> bool:
+def is_in_checkout(package: pathlib.Path) -> bool:
     """Returns whether a package is that of a checkout, and not installed. Anybody might write into the
     directory above the directory of an installation, so nothing is loaded from there."""
     python, bindings = package.parent, package.parent.parent
@@ -269,7 +270,7 @@ def _places() -> List[str]:
     package = pathlib.Path(__file__).resolve().parent
     names = _names()
     near = [package / name for name in names]
-    if _is_in_checkout(package):
+    if is_in_checkout(package):
         near.insert(0, package.parent.parent / "c" / "build" / names[0])
     found = [str(place) for place in near if place.exists()]
     if not found:
@@ -424,7 +425,7 @@ def numbers_of_eights(data: bytes) -> Numbers:
 _WRONG_ENDS = "ends have to ascend, within the bytes"
 
 
-def _address(numbers: Numbers) -> int:
+def address_of(numbers: Numbers) -> int:
     """Returns the address of numbers, which is never NULL."""
     if not numbers:
         numbers.append(0)
@@ -580,7 +581,7 @@ def hip_estimation(image: bytes) -> Optional[Estimation]:
 
 def add(image: bytes, values: bytes, ends: Numbers, count: int) -> bytes:
     """Returns the image with ``count`` more values, delimited by their ends."""
-    given = image, len(image), values, len(values), _address(ends), count
+    given = image, len(image), values, len(values), address_of(ends), count
     try:
         return _written(_library.hll_image_add, room_for(lg_k_in(image)), *given)
     except ArgumentError:
@@ -605,7 +606,7 @@ def merge(lg_max_k: int, width: int, left: bytes, right: bytes) -> bytes:
 def union(lg_max_k: int, width: int, images: Sequence[bytes]) -> bytes:
     """Returns the image of the union. An ``ImageError`` has the number of the image."""
     joined, ends, count = b"".join(images), ends_of(images), len(images)
-    all_ = joined, len(joined), _address(ends), count
+    all_ = joined, len(joined), address_of(ends), count
     return _written(
         _library.hll_images_union, room_for(lg_max_k), lg_max_k, width, *all_, number=c_size_t()
     )
@@ -657,7 +658,7 @@ def coupons(values: bytes, ends: Numbers, count: int) -> Numbers:
     if made:
         _ensure(
             _library.hll_coupons(
-                values, len(values), _address(ends), count, made.buffer_info()[0], count
+                values, len(values), address_of(ends), count, made.buffer_info()[0], count
             )
         )
     return made
@@ -680,7 +681,7 @@ def _refused_registers(status: int) -> Exception:
 def add_to(registers: Memory, values: bytes, ends: Numbers, count: int) -> None:
     """Adds ``count`` values, delimited by their ends, to registers."""
     status = _library.hll_registers_add(
-        registers, len(registers), values, len(values), _address(ends), count
+        registers, len(registers), values, len(values), address_of(ends), count
     )
     if status != OK:
         raise ArgumentError(_WRONG_ENDS)
@@ -689,7 +690,7 @@ def add_to(registers: Memory, values: bytes, ends: Numbers, count: int) -> None:
 def add_coupons_to(registers: Memory, raw_coupons: Numbers) -> None:
     """Adds coupons to registers."""
     count = len(raw_coupons)
-    status = _library.hll_registers_add_coupons(registers, len(registers), _address(raw_coupons), count)
+    status = _library.hll_registers_add_coupons(registers, len(registers), address_of(raw_coupons), count)
     if status != OK:
         number = next(number for number, coupon in enumerate(raw_coupons) if coupon >> 26 == 0)
         raise ArgumentError(f"raw_coupons[{number}] is {raw_coupons[number]}, and the value of a coupon is 1 to 63")
@@ -801,3 +802,9 @@ def estimation_of_counter(counter: Counter) -> Estimation:
     found = Estimation()
     _ensure(_library.hll_counter_estimate(byref(counter), byref(found)))
     return found
+
+
+def add_lines(counter: Counter, call: Call, lines: bytes, *more: object) -> None:
+    """Adds lines to a counter by a call of the module that splits them (``_splitter``), which adds each by ``hll_counter_add``."""
+    add = ctypes.cast(cast(Any, _library.hll_counter_add), c_void_p)
+    _ensure(call(add, byref(counter), lines, len(lines), *more))

@@ -7,7 +7,7 @@ from collections import defaultdict
 from itertools import chain
 from typing import TYPE_CHECKING, Any, Callable, DefaultDict, Dict, Iterator, List, Optional, Sequence, Tuple
 
-from . import _library
+from . import _library, _splitter
 from ._columns import Batch
 from ._values import joined
 from .files import UNUSABLE, Trouble
@@ -34,7 +34,9 @@ def _joined(values: List[Any], are_ints: bool) -> Batch:
 
 
 def image_of(reader: Reader, names: Sequence[str], lg_k: int) -> bytes:
-    """Returns the 8-bit image of the values of inputs (``Reader.batches``)."""
+    """Returns the 8-bit image of the values of inputs. Lines are split in C where that can be done."""
+    if _splitter.is_here() and reader.can_be_split:
+        return _image_by_c(reader, names, lg_k)
     image = _library.new(lg_k, 8)
     with InputBar(names) as bar:
         for name in names:
@@ -43,6 +45,16 @@ def image_of(reader: Reader, names: Sequence[str], lg_k: int) -> bytes:
                     image = _library.add(image, *_joined(batch.values, reader.layout.are_ints))
                 bar.counted_lines(len(batch.values))
     return image
+
+
+def _image_by_c(reader: Reader, names: Sequence[str], lg_k: int) -> bytes:
+    """Returns what ``image_of`` returns."""
+    splitter = _splitter.Splitter(lg_k, reader.layout.missing, reader.layout.longest)
+    with InputBar(names) as bar:
+        for name in names:
+            for count in reader.add_to(splitter, name, bar.read):
+                bar.counted_lines(count)
+    return splitter.image()
 
 
 def _is_text(part: bytes) -> bool:

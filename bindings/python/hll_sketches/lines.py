@@ -6,12 +6,14 @@ import csv
 import json
 import os
 import sys
+from contextlib import contextmanager
 from itertools import chain, compress
 from operator import itemgetter, methodcaller, not_
 from typing import Any, Callable, Dict, FrozenSet, Iterable, Iterator, List, NamedTuple, Optional
 from typing import Sequence, Tuple, Union
 
 from ._names import shown
+from ._splitter import Splitter
 from ._values import bytes_of_int
 from .files import Trouble
 from .inputs import NOTHING, blocks_of, called
@@ -153,36 +155,42 @@ class Sums:
 # ---- lines
 
 
-def lines_of(blocks: Iterable[bytes], longest: int = LONGEST_LINE) -> Iterator[List[bytes]]:
-    """Yields lines in lists: those that end in each block.
+def chunks_of(blocks: Iterable[bytes], longest: int = LONGEST_LINE) -> Iterator[bytes]:
+    """Yields lines in chunks: those that end in each block, with an LF between two.
 
-    A line is its bytes without the LF. Bytes after the last LF are a line too. A line may be longer than
-    a block, and is kept until its end.
+    Bytes after the last LF are a line too. A line may be longer than a block, and is kept until its end, or until it
+    is longer than ``longest``: then what there is of it is the last chunk.
+    """
+    begun: List[bytes] = []
+    size = 0
+    for block in blocks:
+        end = block.rfind(b"\n")
+        if end >= 0:
+            yield b"".join([*begun, block[:end]])
+            begun, size = [], 0
+        begun.append(block[end + 1 :])
+        size += len(begun[-1])
+        if size > longest:
+            break
+    last = b"".join(begun)
+    if last:
+        yield last
+
+
+def lines_of(blocks: Iterable[bytes], longest: int = LONGEST_LINE) -> Iterator[List[bytes]]:
+    """Yields lines in lists, each without its LF (``chunks_of``).
 
     Raises
     ------
     LineError
         If a line is longer than ``longest``.
     """
-    begun: List[bytes] = []
-    size, count = 0, 0      # of the line that has begun, and of the lines before it
-    for block in blocks:
-        end = block.rfind(b"\n")
-        if end < 0:
-            begun.append(block)
-            size += len(block)
-            if size > longest:
-                raise _too_long(count + 1, longest)
-            continue
-        lines = b"".join([*begun, block[:end]]).split(b"\n")
+    count = 0
+    for chunk in chunks_of(blocks, longest):
+        lines = chunk.split(b"\n")
         _check_lengths(lines, count, longest)
-        begun, count = [block[end + 1 :]], count + len(lines)
-        size = len(begun[0])
+        count += len(lines)
         yield lines
-    last = b"".join(begun)
-    if last:
-        _check_lengths([last], count, longest)
-        yield [last]
 
 
 def _too_long(number: int, longest: int) -> LineError:
@@ -350,12 +358,38 @@ class Reader:
         Trouble
             If the input can't be read or isn't text, or if a line can't be counted and bad lines aren't left out.
         """
-        layout, self._name = self.layout, called(name)
-        lines = lines_of(blocks_of(name, layout.is_raw, more), layout.longest)
-        source = (self._whole, self._columns, self._csv, self._json)[layout.form](lines)
-        try:
-            for batch in source:
+        layout = self.layout
+        with self._reading(name):
+            lines = lines_of(blocks_of(name, layout.is_raw, more), layout.longest)
+            for batch in (self._whole, self._columns, self._csv, self._json)[layout.form](lines):
                 yield self._counted(batch)
+
+    @property
+    def can_be_split(self) -> bool:
+        """Whether ``add_to`` reads inputs: values are whole lines, and strings."""
+        return self.layout.form == WHOLE and not self.layout.are_ints
+
+    def add_to(self, splitter: Splitter, name: str, more: Callable[[int], None] = lambda size: None) -> Iterator[int]:
+        """Adds the lines of an input that count to a sketch, some at a time, and yields their numbers. Otherwise it is
+        the same as ``batches``."""
+        layout, sums, before = self.layout, self.sums, self.sums.lines
+        with self._reading(name):
+            for chunk in chunks_of(blocks_of(name, layout.is_raw, more), layout.longest):
+                found = splitter.add(chunk)
+                if found.too_long:
+                    raise _too_long(sums.lines - before + found.too_long, layout.longest)
+                sums.lines += found.lines
+                sums.missing += found.missing
+                sums.ending_in_cr += found.ending_in_cr
+                sums.counted += found.lines - found.missing
+                yield found.lines - found.missing
+
+    @contextmanager
+    def _reading(self, name: str) -> Iterator[None]:
+        """Turns the error of a line into that of an input."""
+        self._name = called(name)
+        try:
+            yield
         except LineError as error:
             more_words = error.more and f" ({error.more})"
             cure = " (--skip-bad leaves such lines out)" if error.can_be_skipped else ""

@@ -10,6 +10,7 @@ import zipfile
 
 import common
 from command import CommandTest
+from hll_sketches import _splitter
 
 SYSTEM = "/usr/bin/python3"
 BUILD = common.PACKAGE.parent / "c" / "build"
@@ -79,11 +80,12 @@ class BuildTest(CommandTest):
     def setUp(self):
         super().setUp()
         self.root = self.folder / "hll"
-        left_out = shutil.ignore_patterns("build", "*.egg-info", "__pycache__")
+        left_out = shutil.ignore_patterns("build", "*.egg-info", "__pycache__", "*.so*")
         shutil.copytree(common.PACKAGE, self.root / "bindings" / "python", ignore=left_out)
         self.c = self.root / "bindings" / "c"
         self.c.mkdir()
         (self.c / "Makefile").write_text("all:\n")
+        shutil.copyfile(common.PACKAGE.parent / "c" / "hll.h", self.c / "hll.h")
 
     def put_library(self):
         library = BUILD / "libhll.so"
@@ -140,6 +142,26 @@ class BuildTest(CommandTest):
                 self.assertEqual(archive.read(licence), (common.PACKAGE / file).read_bytes())
         self.assertEqual(inside, (BUILD / "libhll.so").read_bytes())
         self.assertIn("hll_sketches/py.typed", names)
+        self.assertIn(f"hll_sketches/{_splitter.NAME}", names)
+        self.assertTrue(self.splits_in_c(python))
+
+    def test_with_the_module_alone(self):
+        """Another program's library, and the module that LIBHLL_LINES names: as the Debian package has it."""
+        module = common.PACKAGE / "build" / _splitter.NAME
+        if not module.exists():
+            self.skipTest("the module that splits lines is not built")
+        wheel, python = self.wheel(LIBHLL="", LIBHLL_LINES=str(module))
+        self.assertRegex(wheel.name, r"-py3-none-(manylinux_2_\d+|linux)_\w+\.whl$")
+        names, _ = self.run_from(wheel, python, "--version")
+        self.assertEqual([name for name in names if ".so" in name], [f"hll_sketches/{_splitter.NAME}"])
+        self.assertTrue(self.splits_in_c(python))
+
+    def splits_in_c(self, python):
+        """Whether the package that was unpacked last splits lines in C."""
+        code = "from hll_sketches import _splitter; print(_splitter.is_here())"
+        done = subprocess.run([python, "-c", code], cwd=self.folder, capture_output=True, text=True,
+                              env=plain_environment(PYTHONPATH=str(self.folder / "installed")))
+        return done.stdout == "True\n"
 
     def test_from_the_text(self):
         """A copy of the checkout in which nothing is built: pip builds the library."""
@@ -166,13 +188,15 @@ class BuildTest(CommandTest):
 
     def test_with_the_library_of_the_system(self):
         """LIBHLL is empty."""
-        stale = self.root / "bindings/python/build/lib/hll_sketches/libhll.so"
-        stale.parent.mkdir(parents=True)
-        stale.write_bytes(b"an old one")
+        stale = self.root / "bindings/python/build/lib/hll_sketches"
+        stale.mkdir(parents=True)
+        for name in ("libhll.so", _splitter.NAME):
+            (stale / name).write_bytes(b"an old one")
         wheel, python = self.wheel(LIBHLL="")
         self.assertTrue(wheel.name.endswith("-py3-none-any.whl"), wheel.name)
         names, done = self.run_from(wheel, python, "new", "a.hll")
         self.assertFalse([name for name in names if "libhll" in name])
+        self.assertFalse(self.splits_in_c(python))
         if "libhll" not in str(subprocess.run(["ldconfig", "-p"], capture_output=True).stdout):
             self.assertEqual(done.returncode, 2)
             begin = "hll: the shared library libhll.so is not here: build it"
@@ -224,7 +248,7 @@ EMPTY(hll_image_new) EMPTY(hll_image_add) EMPTY(hll_image_add_coupon) EMPTY(hll_
 EMPTY(hll_images_union) EMPTY(hll_image_fold) EMPTY(hll_image_convert) EMPTY(hll_image_check)
 EMPTY(hll_image_size) EMPTY(hll_image_trailing) EMPTY(hll_image_set_estimator_fields) EMPTY(hll_image_clear_estimator_fields) EMPTY(hll_images_agree) EMPTY(hll_coupon) EMPTY(hll_coupons)
 EMPTY(hll_estimate) EMPTY(hll_hip_estimate)
-EMPTY(hll_counter_free) EMPTY(hll_counter_settle) EMPTY(hll_counter_shrink) EMPTY(hll_counter_copy) EMPTY(hll_counter_join) EMPTY(hll_counter_info)
+EMPTY(hll_counter_free) EMPTY(hll_counter_add) EMPTY(hll_counter_settle) EMPTY(hll_counter_shrink) EMPTY(hll_counter_copy) EMPTY(hll_counter_join) EMPTY(hll_counter_info)
 EMPTY(hll_counter_image) EMPTY(hll_counter_estimate)
 EMPTY(hll_registers_add) EMPTY(hll_registers_add_coupons)
 EMPTY(hll_registers_merge) EMPTY(hll_registers_merge_registers) EMPTY(hll_registers_fold)
