@@ -35,6 +35,11 @@ echo 'ok: versions of the commands'
 
 python3 -c 'from hll_sketches import _splitter as s; import sys; sys.exit(not s.is_here())'
 [ "$(seq 1 1000 | hll count)" = "$(seq 1 1000 | HLL_SKETCHES_LINES='' hll count)" ]
+printf '/home\tann\n/home\tbob\n/shop\tann\n' >log
+hll add --db c.db --key page=1 --value 2 log
+HLL_SKETCHES_LINES='' hll add --db python.db --key page=1 --value 2 log
+hll dump c.db >c
+hll dump python.db | cmp - c
 echo 'ok: lines are split in C'
 
 [ "$(printf 'new 10 8\ncoupon 5 3\n' | hll_merge | hll_estimator_fields)" = 0201070a030801080500000c ]

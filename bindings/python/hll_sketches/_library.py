@@ -18,7 +18,7 @@ from ctypes import POINTER, byref, c_char_p, c_double, c_size_t, c_void_p
 from ctypes import c_uint, c_uint8, c_uint32, c_uint64
 from itertools import accumulate
 from operator import index
-from typing import TYPE_CHECKING, Any, Callable, Dict, Iterable, List, Optional, Sequence, SupportsIndex
+from typing import TYPE_CHECKING, Callable, Dict, Iterable, List, Optional, Sequence, SupportsIndex
 from typing import Tuple, Type, TypeVar, cast
 
 from ._errors import ArgumentError, ImageError
@@ -444,7 +444,7 @@ def _refusal(status: int, number: Optional[int] = None) -> Exception:
     return ImageError(WORDS[status], number)
 
 
-def _ensure(status: int, refusal: Callable[[int], Exception] = _refusal) -> None:
+def ensure(status: int, refusal: Callable[[int], Exception] = _refusal) -> None:
     """Raises the exception for a status, unless it is success."""
     if status != OK:
         raise refusal(status)
@@ -512,7 +512,7 @@ def new(lg_k: int, width: int) -> bytes:
 def head(image: bytes) -> Head:
     """Returns what the header of an image and the counts after it say, of at least its first ``HEADER`` bytes."""
     found, first = Head(), image[:HEADER]
-    _ensure(_library.hll_image_head(first, len(first), byref(found), ctypes.sizeof(Head)))
+    ensure(_library.hll_image_head(first, len(first), byref(found), ctypes.sizeof(Head)))
     return found
 
 
@@ -529,14 +529,14 @@ def width_in(image: bytes) -> int:
 def info(image: bytes) -> Info:
     """Returns what an image says."""
     found = Info()
-    _ensure(_library.hll_image_info(image, len(image), byref(found), ctypes.sizeof(Info)))
+    ensure(_library.hll_image_info(image, len(image), byref(found), ctypes.sizeof(Info)))
     return found
 
 
 def trailing(image: bytes) -> int:
     """Returns how many bytes follow an image."""
     more = c_size_t()
-    _ensure(_library.hll_image_trailing(image, len(image), byref(more)))
+    ensure(_library.hll_image_trailing(image, len(image), byref(more)))
     return more.value
 
 
@@ -559,14 +559,14 @@ def check_end(image: bytes) -> None:
 def histogram(image: bytes) -> List[int]:
     """Returns how many registers have each value."""
     found = Histogram()
-    _ensure(_library.hll_image_histogram(image, len(image), byref(found)))
+    ensure(_library.hll_image_histogram(image, len(image), byref(found)))
     return list(found.counts)
 
 
 def estimation(image: bytes) -> Estimation:
     """Returns an estimate with its bounds."""
     found = Estimation()
-    _ensure(_library.hll_estimate(image, len(image), byref(found)))
+    ensure(_library.hll_estimate(image, len(image), byref(found)))
     return found
 
 
@@ -656,7 +656,7 @@ def coupons(values: bytes, ends: Numbers, count: int) -> Numbers:
     """Returns the raw coupons of ``count`` values, delimited by their ends."""
     made = array(_COUPON, bytes(4 * count))
     if made:
-        _ensure(
+        ensure(
             _library.hll_coupons(
                 values, len(values), address_of(ends), count, made.buffer_info()[0], count
             )
@@ -721,13 +721,13 @@ def merge_registers(registers: Memory, others: Memory) -> Optional[int]:
 
 def fold_registers(registers: Memory, lg_k: int) -> None:
     """Folds registers in place, into the first of their bytes."""
-    _ensure(_library.hll_registers_fold(registers, len(registers), lg_k), _refused_registers)
+    ensure(_library.hll_registers_fold(registers, len(registers), lg_k), _refused_registers)
 
 
 def histogram_of(registers: Memory) -> List[int]:
     """Returns how many registers have each value."""
     found = Histogram()
-    _ensure(
+    ensure(
         _library.hll_registers_histogram(registers, len(registers), byref(found)), _refused_registers
     )
     return list(found.counts)
@@ -736,7 +736,7 @@ def histogram_of(registers: Memory) -> List[int]:
 def estimation_of(registers: Memory) -> Estimation:
     """Returns an estimate from registers, with its bounds."""
     found = Estimation()
-    _ensure(
+    ensure(
         _library.hll_registers_estimate(registers, len(registers), byref(found)), _refused_registers
     )
     return found
@@ -761,13 +761,13 @@ ALLOCATOR: Optional[Callable[..., Optional[int]]] = None
 def new_counter(lg_k: int) -> Counter:
     """Returns an empty counter. If ``lg_k`` is 0, what is merged decides it."""
     made = Counter()
-    _ensure(_library.hll_counter_init(byref(made), lg_k, ALLOCATOR, None))
+    ensure(_library.hll_counter_init(byref(made), lg_k, ALLOCATOR, None))
     return made
 
 
 def copy_counter(to: Counter, counter: Counter) -> None:
     """Makes one counter the copy of another."""
-    _ensure(_library.hll_counter_copy(byref(to), byref(counter)))
+    ensure(_library.hll_counter_copy(byref(to), byref(counter)))
 
 
 def join_counter(counter: Counter, image: bytes) -> bool:
@@ -781,7 +781,7 @@ def join_counter(counter: Counter, image: bytes) -> bool:
 
 def settle_counter(counter: Counter) -> None:
     """Sorts the coupons of a counter, and frees the room that it doesn't need."""
-    _ensure(_library.hll_counter_settle(byref(counter)))
+    ensure(_library.hll_counter_settle(byref(counter)))
     _library.hll_counter_shrink(byref(counter))
 
 
@@ -793,18 +793,22 @@ def image_of_counter(counter: Counter, width: int) -> bytes:
 def summary_of(counter: Counter) -> Summary:
     """Returns what a counter says."""
     found = Summary()
-    _ensure(_library.hll_counter_info(byref(counter), byref(found), ctypes.sizeof(Summary)))
+    ensure(_library.hll_counter_info(byref(counter), byref(found), ctypes.sizeof(Summary)))
     return found
 
 
 def estimation_of_counter(counter: Counter) -> Estimation:
     """Returns an estimate of a counter, with its bounds."""
     found = Estimation()
-    _ensure(_library.hll_counter_estimate(byref(counter), byref(found)))
+    ensure(_library.hll_counter_estimate(byref(counter), byref(found)))
     return found
+
+
+def address_of_call(name: str) -> int:
+    """Returns the address of a call, for the module that splits lines."""
+    return ctypes.cast(getattr(_library, name), c_void_p).value or 0
 
 
 def add_lines(counter: Counter, call: Call, lines: bytes, *more: object) -> None:
     """Adds lines to a counter by a call of the module that splits them (``_splitter``), which adds each by ``hll_counter_add``."""
-    add = ctypes.cast(cast(Any, _library.hll_counter_add), c_void_p)
-    _ensure(call(add, byref(counter), lines, len(lines), *more))
+    ensure(call(address_of_call("hll_counter_add"), byref(counter), lines, len(lines), *more))

@@ -5,15 +5,16 @@ from __future__ import annotations
 import time
 from collections import defaultdict
 from itertools import chain
-from typing import TYPE_CHECKING, Any, Callable, DefaultDict, Dict, Iterator, List, Optional, Sequence, Tuple
+from typing import TYPE_CHECKING, Any, Callable, DefaultDict, Dict, Iterator, List, Optional, Sequence, Tuple, Union
 
 from . import _library, _splitter
 from ._columns import Batch
-from ._values import joined
+from ._splitter import Key, Rows, Splitter
+from ._values import bytes_of_int, joined
 from .files import UNUSABLE, Trouble
 from .inputs import NOTHING
 from .lines import Batch as Lines
-from .lines import Key, Reader
+from .lines import Reader
 from .progress import InputBar
 
 if TYPE_CHECKING:
@@ -28,6 +29,9 @@ VALUE_BYTES, MOST_WAITING = 64, 1 << 25
 """The memory that a value needs in addition to its own bytes, and the most bytes of values that wait."""
 
 
+Sink = Union[Splitter, Rows]
+
+
 def _joined(values: List[Any], are_ints: bool) -> Batch:
     """Returns the concatenated bytes of values, with their ends."""
     return joined(values) if are_ints else (b"".join(values), _library.ends_of(values), len(values))
@@ -35,8 +39,10 @@ def _joined(values: List[Any], are_ints: bool) -> Batch:
 
 def image_of(reader: Reader, names: Sequence[str], lg_k: int) -> bytes:
     """Returns the 8-bit image of the values of inputs. Lines are split in C where that can be done."""
-    if _splitter.is_here() and reader.can_be_split:
-        return _image_by_c(reader, names, lg_k)
+    sink = reader.sink(lg_k)
+    if sink is not None:
+        _add_all(reader, names, sink)
+        return sink.image()
     image = _library.new(lg_k, 8)
     with InputBar(names) as bar:
         for name in names:
@@ -47,14 +53,13 @@ def image_of(reader: Reader, names: Sequence[str], lg_k: int) -> bytes:
     return image
 
 
-def _image_by_c(reader: Reader, names: Sequence[str], lg_k: int) -> bytes:
-    """Returns what ``image_of`` returns."""
-    splitter = _splitter.Splitter(lg_k, reader.layout.missing, reader.layout.longest)
+def _add_all(reader: Reader, names: Sequence[str], sink: Sink, more: Callable[[], None] = lambda: None) -> None:
+    """Adds the lines of inputs to sketches in C. ``more`` is called now and then."""
     with InputBar(names) as bar:
         for name in names:
-            for count in reader.add_to(splitter, name, bar.read):
+            for count in reader.add_to(sink, name, bar.read):
                 bar.counted_lines(count)
-    return splitter.image()
+                more()
 
 
 def _is_text(part: bytes) -> bool:
@@ -73,35 +78,31 @@ def _order_of(key: Key) -> List[Tuple[bool, bytes]]:
     return [(not _is_text(part), part) for part in key]
 
 
-class Keyed:
-    """Sketches by key: in memory, and in a temporary database once they need more memory than is allowed.
+class _Images:
+    """Sketches by key, in Python: what ``Rows`` is in C."""
 
-    Parameters
-    ----------
-    settings : Settings
-        The names of the parts of a key, and the ``lg_k`` and the width of all sketches.
-    are_ints : bool
-        Whether values are integers, and not strings.
-    memory : int
-        The most bytes of memory for the sketches.
-    """
+    def __init__(self, lg_k: int, most: int) -> None:
+        self._empty, self._most_waiting = _library.new(lg_k, 8), min(MOST_WAITING, most)
+        self.clear()
 
-    def __init__(self, settings: Settings, are_ints: bool, memory: int) -> None:
-        self._settings, self._are_ints, self._most = settings, are_ints, memory
-        self._empty = _library.new(settings.lg_k, 8)
+    def clear(self) -> None:
+        """Removes all keys."""
         self._images: Dict[Key, bytes] = {}
-        self._bytes = 0
-        self._waiting: DefaultDict[Key, List[Any]] = defaultdict(list)
-        self._waits = 0
-        self._rest: Optional[sqlite3.Connection] = None
+        self._waiting: DefaultDict[Key, List[bytes]] = defaultdict(list)
+        self._bytes = self._waits = 0
 
-    def add(self, lines: Lines) -> None:
+    @property
+    def size(self) -> int:
+        """The bytes in memory, without the values that wait."""
+        return self._bytes
+
+    def add(self, keys: Sequence[Key], values: Sequence[bytes]) -> None:
         """Adds values to the sketches of their keys. Each key costs a call of the library, so values wait."""
         waiting = self._waiting
-        for key, value in zip(lines.keys, lines.values):
+        for key, value in zip(keys, values):
             waiting[key].append(value)
-        self._waits += VALUE_BYTES * len(lines.values) + (0 if self._are_ints else sum(map(len, lines.values)))
-        if self._waits > min(MOST_WAITING, self._most):
+        self._waits += VALUE_BYTES * len(values) + sum(map(len, values))
+        if self._waits > self._most_waiting:
             self._settle()
 
     def _settle(self) -> None:
@@ -112,20 +113,80 @@ class Keyed:
             if before is None:
                 before = self._empty
                 self._bytes += len(before) + sum(map(len, key)) + KEY_BYTES
-            self._images[key] = image = _library.add(before, *_joined(some, self._are_ints))
+            self._images[key] = image = _library.add(before, *_joined(some, False))
             self._bytes += len(image) - len(before)
-        if self._bytes > self._most:
+
+    def keys(self) -> List[Key]:
+        """Returns the keys, in the order in which they came."""
+        self._settle()
+        return list(self._images)
+
+    def images(self, numbers: Sequence[int], width: int) -> Iterator[bytes]:
+        """Yields the images of keys, which are numbered as ``keys`` returns them."""
+        images = list(self._images.values())
+        for number in numbers:
+            yield images[number] if width == 8 else _library.convert(images[number], width)
+
+
+class Keyed:
+    """Sketches by key: in memory, and in a temporary database once they need more memory than is allowed.
+
+    Parameters
+    ----------
+    settings : Settings
+        The names of the parts of a key, and the ``lg_k`` and the width of all sketches.
+    reader : Reader
+        Reads the lines.
+    memory : int
+        The most bytes of memory for the sketches.
+    """
+
+    def __init__(self, settings: Settings, reader: Reader, memory: int) -> None:
+        self._settings, self._reader, self._most = settings, reader, memory
+        self._sink = reader.sink(settings.lg_k)
+        self._some: Union[Rows, _Images] = self._store()
+        self._rest: Optional[sqlite3.Connection] = None
+
+    def _store(self) -> Union[Rows, _Images]:
+        """Returns what has the sketches in memory: what lines in C are added to, or what batches are."""
+        if isinstance(self._sink, Rows):
+            return self._sink
+        lg_k = self._settings.lg_k
+        return Rows(lg_k, len(self._settings.keys)) if _splitter.is_here() else _Images(lg_k, self._most)
+
+    def read(self, names: Sequence[str]) -> None:
+        """Adds the values of inputs to the sketches of their keys."""
+        if self._sink is not None:
+            _add_all(self._reader, names, self._sink, self._bound)
+            return
+        with InputBar(names) as bar:
+            for name in names:
+                for batch in self._reader.batches(name, bar.read):
+                    self._add(batch)
+                    bar.counted_lines(len(batch.values))
+
+    def _add(self, lines: Lines) -> None:
+        """Adds values to the sketches of their keys."""
+        values = list(map(bytes_of_int, lines.values)) if self._reader.layout.are_ints else lines.values
+        self._some.add(lines.keys, values)
+        self._bound()
+
+    def _bound(self) -> None:
+        """Moves the sketches if they need too much memory."""
+        if self._some.size > self._most:
             self._move()
 
     def _in_memory(self) -> Iterator[Row]:
         """Yields the sketches in memory, in the order of their keys."""
         from .database import stored
 
-        are_texts = all(map(_is_text, chain.from_iterable(self._images)))
-        width = self._settings.width
-        for key in sorted(self._images) if are_texts else sorted(self._images, key=_order_of):
-            image = self._images[key]
-            yield (*map(stored, key), image if width == 8 else _library.convert(image, width))
+        keys = self._some.keys()
+        orders: Sequence[Any] = keys
+        if not all(map(_is_text, chain.from_iterable(keys))):
+            orders = [_order_of(key) for key in keys]
+        numbers = sorted(range(len(keys)), key=orders.__getitem__)
+        for number, image in zip(numbers, self._some.images(numbers, self._settings.width)):
+            yield (*map(stored, keys[number]), image)
 
     def _move(self) -> None:
         """Moves the sketches in memory to the temporary database."""
@@ -141,27 +202,17 @@ class Keyed:
         except sqlite3.Error as error:
             cure = "SQLITE_TMPDIR names another directory, and --memory keeps more in memory"
             raise Trouble("temporary file", f"{error}: {NOTHING} ({cure})", UNUSABLE) from None
-        self._images, self._bytes = {}, 0
+        self._some.clear()
 
     def rows(self) -> Iterator[Row]:
         """Yields the keys in ascending order, each with its image."""
         from .database import columns_of
 
-        self._settle()
         if self._rest is None:
             yield from self._in_memory()
             return
         self._move()
         yield from self._rest.execute(f"SELECT * FROM sketches ORDER BY {columns_of(self._settings.keys)}")
-
-
-def count_by_key(reader: Reader, names: Sequence[str], sketches: Keyed) -> None:
-    """Adds the values of inputs (``Reader.batches``) to the sketches of their keys."""
-    with InputBar(names) as bar:
-        for name in names:
-            for batch in reader.batches(name, bar.read):
-                sketches.add(batch)
-                bar.counted_lines(len(batch.values))
 
 
 def say_sums(reader: Reader, inputs: int, begun: float, verbose: bool, say: Callable[[str], None], keys: Optional[int] = None) -> None:

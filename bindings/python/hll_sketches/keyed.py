@@ -128,8 +128,8 @@ def count(options: Namespace, say: Say) -> int:
         counting.say_sums(reader, len(inputs), begun, options.verbose, say)
         put_estimates(options, (), [((), _library.estimation(image))])
         return 0
-    sketches = counting.Keyed(Settings(tuple(names), options.lg_k, 8), options.layout.are_ints, options.memory)
-    counting.count_by_key(reader, inputs, sketches)
+    sketches = counting.Keyed(Settings(tuple(names), options.lg_k, 8), reader, options.memory)
+    sketches.read(inputs)
     counting.say_sums(reader, len(inputs), begun, options.verbose, say)
     put_estimates(options, names, ((row[:-1], _library.estimation(row[-1])) for row in sketches.rows()))
     return 0
@@ -147,8 +147,8 @@ def add(options: Namespace, say: Say) -> int:
     else:
         check_output(options.db)
     reader = Reader(options.layout)
-    sketches = counting.Keyed(Settings(names, lg_k or 12, width or 8), options.layout.are_ints, options.memory)
-    counting.count_by_key(reader, inputs, sketches)
+    sketches = counting.Keyed(Settings(names, lg_k or 12, width or 8), reader, options.memory)
+    sketches.read(inputs)
     with Database(options.db, names, lg_k, width, options.wait) as database:
         keys = 0
 

@@ -12,8 +12,9 @@ from operator import itemgetter, methodcaller, not_
 from typing import Any, Callable, Dict, FrozenSet, Iterable, Iterator, List, NamedTuple, Optional
 from typing import Sequence, Tuple, Union
 
+from . import _splitter
 from ._names import shown
-from ._splitter import Splitter
+from ._splitter import LONGEST_KEY, Columns, Counts, Key, Rows, Splitter
 from ._values import bytes_of_int
 from .files import Trouble
 from .inputs import NOTHING, blocks_of, called
@@ -24,15 +25,9 @@ RECORDS = 1 << 17
 LONGEST_LINE = 1 << 26
 """The most bytes of a line, unless another number is given."""
 
-LONGEST_KEY = 1 << 16
-"""The most bytes of each part of a key."""
-
 WHOLE, COLUMNS, CSV, JSON = range(4)
 """How values are found: a value is a whole line, a column between separators, a column of CSV with a header, or a
 member of a JSON object."""
-
-Key = Tuple[bytes, ...]
-
 
 class LineError(Exception):
     """A line can't be counted.
@@ -364,25 +359,46 @@ class Reader:
             for batch in (self._whole, self._columns, self._csv, self._json)[layout.form](lines):
                 yield self._counted(batch)
 
-    @property
-    def can_be_split(self) -> bool:
-        """Whether ``add_to`` reads inputs: values are whole lines, and strings."""
-        return self.layout.form == WHOLE and not self.layout.are_ints
+    def sink(self, lg_k: int) -> Union[Splitter, Rows, None]:
+        """Returns what ``add_to`` adds lines to, or None if lines of this layout are read in Python."""
+        layout = self.layout
+        if not _splitter.is_here() or layout.are_ints or layout.skip_empty_key or layout.form not in (WHOLE, COLUMNS):
+            return None
+        if layout.form == WHOLE:
+            return Splitter(lg_k, layout.missing, layout.longest)
+        if len(layout.separator) != 1 or layout.separator == b"\0":
+            return None
+        lengths = [part.length for part in layout.parts]
+        columns = Columns(layout.separator, self._numbered(), lengths, layout.missing, layout.longest)
+        return Rows(lg_k, len(layout.parts), columns)
 
-    def add_to(self, splitter: Splitter, name: str, more: Callable[[int], None] = lambda size: None) -> Iterator[int]:
-        """Adds the lines of an input that count to a sketch, some at a time, and yields their numbers. Otherwise it is
-        the same as ``batches``."""
-        layout, sums, before = self.layout, self.sums, self.sums.lines
+    def add_to(self, sink: Union[Splitter, Rows], name: str, more: Callable[[int], None] = lambda size: None) -> Iterator[int]:
+        """Adds the lines of an input that count to sketches, some at a time, and yields their numbers. Otherwise it is
+        the same as ``batches``, which reads the chunks in which a line is unusual."""
+        layout, before = self.layout, 0
         with self._reading(name):
             for chunk in chunks_of(blocks_of(name, layout.is_raw, more), layout.longest):
-                found = splitter.add(chunk)
-                if found.too_long:
-                    raise _too_long(sums.lines - before + found.too_long, layout.longest)
-                sums.lines += found.lines
-                sums.missing += found.missing
-                sums.ending_in_cr += found.ending_in_cr
-                sums.counted += found.lines - found.missing
-                yield found.lines - found.missing
+                counts = sink.add_chunk(chunk)
+                if counts is not None:
+                    before += counts.lines
+                    yield self._summed(counts)
+                    continue
+                lines = chunk.split(b"\n")
+                _check_lengths(lines, before, layout.longest)
+                assert isinstance(sink, Rows)       # whole lines are unusual only if they are too long
+                for batch in map(self._counted, self._columns([lines], before)):
+                    sink.add(batch.keys, batch.values)
+                    yield len(batch.values)
+                before += len(lines)
+
+    def _summed(self, counts: Counts) -> int:
+        """Adds what was read to the sums. Returns the number of lines that count."""
+        count = counts.lines - counts.missing
+        self.sums.lines += counts.lines
+        self.sums.missing += counts.missing
+        self.sums.ending_in_cr += counts.ending_in_cr
+        self.sums.counted += count
+        return count
 
     @contextmanager
     def _reading(self, name: str) -> Iterator[None]:
@@ -415,10 +431,9 @@ class Reader:
             yield Batch([], lines, range(before + 1, before + len(lines) + 1))
             before += len(lines)
 
-    def _columns(self, source: Iterable[List[bytes]]) -> Iterator[Batch]:
-        """Yields columns between separators."""
-        before = 0
-        places = [number_of(column) or 0 for _, column in self._options()]
+    def _columns(self, source: Iterable[List[bytes]], before: int = 0) -> Iterator[Batch]:
+        """Yields columns between separators, of lines that follow others."""
+        places = self._numbered()
         split: Callable[[bytes], List[bytes]] = methodcaller(
             "split", self.layout.separator, max(places) + 1      # what follows these columns stays together
         )
@@ -490,6 +505,10 @@ class Reader:
             yield self._with_keys(self._batch(picked, numbers))
 
     # ---- columns
+
+    def _numbered(self) -> List[int]:
+        """Returns the places of columns that are numbers."""
+        return [number_of(column) or 0 for _, column in self._options()]
 
     def _options(self) -> List[Tuple[str, str]]:
         """Returns the columns that are read, each with its option: those of the key, and then the value."""

@@ -20,7 +20,7 @@ from command import COMMAND, CommandTest, environment, other_user
 from hll_sketches import Database, DatabaseError, Sketch, _library, cli, counting, files
 from hll_sketches import database as module
 from hll_sketches import keyed
-from hll_sketches.lines import Batch
+from hll_sketches.lines import COLUMNS, Layout, Part, Reader
 
 KEY = ["--key", "day=1,page=2", "--value", "3"]
 LOG = b"mon\t/a\tann\nmon\t/a\tbob\nmon\t/b\tann\ntue\t/a\tcid\ntue\t\tdan\n"
@@ -332,10 +332,10 @@ class MergeTest(KeyedTest):
     def test_a_temporary_file_that_is_full(self):
         settings = module.Settings(("day", "page"), 12, 8)
         full = sqlite3.OperationalError("database or disk is full")
-        sketches = counting.Keyed(settings, False, 0)
+        reader = Reader(Layout(COLUMNS, "3", (Part("day", "1"), Part("page", "2"))))
+        path = str(self.write("a.tsv", b"a\tb\tx\n"))
         with mock.patch.object(module, "temporary", side_effect=full), self.assertRaises(files.Trouble) as caught:
-            sketches.add(Batch([(b"a", b"b")], [b"x"], [1]))
-            list(sketches.rows())
+            counting.Keyed(settings, reader, 0).read([path])
         words = "database or disk is full: nothing was counted (SQLITE_TMPDIR names another directory, and --memory keeps more in memory)"
         self.assertEqual(str(caught.exception), f"temporary file: {words}")
 
