@@ -205,6 +205,7 @@ class Rows:
         names = "init", "free", "add", "settle", "image"
         self._given = _Calls(*(_library.address_of_call(f"hll_counter_{name}") for name in names), _library.ALLOCATOR)
         self._rows: Optional[int] = None
+        self._free = _call("rows_free")
         self.clear()
         if columns is not None:
             self._missing = _Missing(columns.missing)
@@ -214,14 +215,15 @@ class Rows:
             self._rules = _RowRules(rules, columns.separator[0], places, lengths, max(columns.places))
 
     def __del__(self) -> None:
-        if getattr(self, "_rows", None) and _calls is not None:
-            _call("rows_free")(self._rows)
+        if getattr(self, "_rows", None):
+            self._free(self._rows)
 
     def clear(self) -> None:
         """Removes all keys."""
-        if self._rows:
-            _call("rows_free")(self._rows)
         seed = (c_uint64 * 2).from_buffer_copy(os.urandom(16))
+        before, self._rows = self._rows, None
+        if before:
+            self._free(before)
         self._rows = _call("rows_new")(byref(self._given), self._lg_k, self._parts, seed)
         if not self._rows:
             raise MemoryError("an allocation failed")
