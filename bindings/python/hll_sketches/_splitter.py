@@ -25,7 +25,7 @@ LONGEST_KEY = 1 << 16
 """The most bytes of each part of a key."""
 
 KEY_BYTES = 150
-"""The memory that a key takes in Python, where keys are sorted, in addition to its own bytes."""
+"""The memory for each key in Python, where keys are sorted, in addition to its own bytes."""
 
 IMAGES_AT_ONCE, ROOM = 1024, 1 << 20
 """The most images that are written at once, and the bytes for them."""
