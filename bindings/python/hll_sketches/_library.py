@@ -18,7 +18,7 @@ from ctypes import POINTER, byref, c_char_p, c_double, c_size_t, c_void_p
 from ctypes import c_uint, c_uint8, c_uint32, c_uint64
 from itertools import accumulate
 from operator import index
-from typing import TYPE_CHECKING, Callable, Dict, Iterable, List, Optional, Sequence, SupportsIndex
+from typing import TYPE_CHECKING, Any, Callable, Dict, Iterable, List, Optional, Sequence, SupportsIndex
 from typing import Tuple, Type, TypeVar, cast
 
 from ._errors import ArgumentError, ImageError
@@ -804,11 +804,19 @@ def estimation_of_counter(counter: Counter) -> Estimation:
     return found
 
 
-def address_of_call(name: str) -> int:
-    """Returns the address of a call, for the module that splits lines."""
-    return ctypes.cast(getattr(_library, name), c_void_p).value or 0
+def counter_calls() -> List[int]:
+    """Returns the addresses of the calls of counters that init, free, add, settle and write an image, for the module that
+    splits lines."""
+    calls = (
+        _library.hll_counter_init,
+        _library.hll_counter_free,
+        _library.hll_counter_add,
+        _library.hll_counter_settle,
+        _library.hll_counter_image,
+    )
+    return [ctypes.cast(cast(Any, call), c_void_p).value or 0 for call in calls]
 
 
 def add_lines(counter: Counter, call: Call, lines: bytes, *more: object) -> None:
     """Adds lines to a counter by a call of the module that splits them (``_splitter``), which adds each by ``hll_counter_add``."""
-    ensure(call(address_of_call("hll_counter_add"), byref(counter), lines, len(lines), *more))
+    ensure(call(counter_calls()[2], byref(counter), lines, len(lines), *more))

@@ -202,8 +202,7 @@ class Rows:
 
     def __init__(self, lg_k: int, parts: int, columns: Optional[Columns] = None) -> None:
         self._lg_k, self._parts = lg_k, parts
-        names = "init", "free", "add", "settle", "image"
-        self._given = _Calls(*(_library.address_of_call(f"hll_counter_{name}") for name in names), _library.ALLOCATOR)
+        self._given = _Calls(*_library.counter_calls(), _library.ALLOCATOR)
         self._rows: Optional[int] = None
         self._free = _call("rows_free")
         self.clear()
