@@ -24,12 +24,10 @@ CALLGRIND = ["valgrind", "--tool=callgrind", "--callgrind-out-file=/dev/null"]
 WAYS = [{}, {"HLL_SKETCHES_LINES": ""}]
 """What is in the environment: for the module in C, and for Python."""
 
-BY_KEY = ["--db", "@", "--key", "day=1,page=2"]
 WORKS = [
     ("whole lines", "visitors", ["--create", "@"]),
     ("a column of three", "log", ["--create", "@", "--value", "3"]),
-    ("a column of three, by key", "log", [*BY_KEY, "--value", "3"]),
-    ("a column of CSV, by key", "csv", ["--db", "@", "--key", "day,page", "--csv", "--value", "visitor"]),
+    ("a column of three, by key", "log", ["--db", "@", "--key", "day=1,page=2", "--value", "3"]),
 ]
 """A name, the lines, and the words of `hll add`, in which @ is a file that isn't there."""
 
@@ -38,13 +36,12 @@ RUNS = 5
 
 
 def write_lines(folder, count):
-    """Writes files of so many lines: visitors, a log, and a log as CSV."""
+    """Writes files of so many lines: visitors, and a log."""
     numbers = random.Random(1)
     rows = [("2026-10-%02d" % numbers.randrange(1, 32), "/page%d" % numbers.randrange(672), "visitor%d" % numbers.randrange(333_333)) for _ in range(count)]
     texts = {
         "visitors": "".join(visitor + "\n" for _, _, visitor in rows),
         "log": "".join("\t".join(row) + "\n" for row in rows),
-        "csv": "day,page,visitor\n" + "".join(",".join(row) + "\n" for row in rows),
     }
     for name, text in texts.items():
         (folder / f"{name}{count}").write_text(text)

@@ -225,7 +225,7 @@ class CounterTest(unittest.TestCase):
         """Its allocator is not there, so nothing is freed."""
         union = SketchUnion.__new__(SketchUnion)
         del union
-        with mock.patch.object(_library, "_ensure", side_effect=MemoryError):
+        with mock.patch.object(_library, "ensure", side_effect=MemoryError):
             self.assertRaises(MemoryError, SketchUnion)
         self.assertRaises(ArgumentError, SketchUnion, 3)
 
