@@ -153,7 +153,7 @@ class CallsTest(unittest.TestCase):
 
     def test_words_and_sentences(self):
         self.change("bindings/c/hll.h", '"The family byte is not 7."', '"The family byte is another."')
-        self.change("bindings/c/hll.h", '"family", "version"', '"kind", "version"')
+        self.change("bindings/c/hll.h", '"family",', '"kind",')
         said = self.faults()
         for path in ("python/hll_sketches/_errors.py", "rust/src/error.rs", "javascript/core.mjs", "javascript/hll.d.mts"):
             self.assertTrue(any(fault.startswith("bindings/%s lacks: " % path) for fault in said), path)
