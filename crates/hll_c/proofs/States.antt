@@ -25,7 +25,7 @@ use Rattle.hll_state.specs.Memory.{HasHeader, IsState, OfState}
 use Rattle.hll_state.specs.declared.header.Header.{Header}
 use Rattle.hll_state.specs.declared.header.CouponTable.{CouponTable}
 use Rattle.hll_state.specs.declared.join.Joined.{Joined}
-use Rattle.hll_state.proofs.Rooms.{staged_table}
+use Rattle.hll_state.proofs.Rooms.{staged_table, room_fewer}
 use Rattle.hll_state.proofs.States.{means, read_at, rest_borrowed, rest_written}
 use Rattle.hll_state.proofs.Tables.{content-taken, content-staged}
 use Rattle.hll_c.specs.Answers.{IsImageOf, WithFields}
@@ -42,18 +42,27 @@ pub record AddsLeft (first : Header) (first_body : List (List ℕ)) (h : Header)
   pub within : IsWithin h (length body)
   pub room : HasRoom h (length cs - i) (length body)
   pub widths : h.widths ≡ first.widths
+  pub takes : (n len : ℕ) → HasRoom first (n + i) len → HasRoom h n len
   pub same : add_in_turn (sketch_in h body) (drop i cs) ≡ add_in_turn (sketch_in first first_body) cs
 
 pub room_for_one : (h : Header) (n i room : ℕ) → i < n → HasRoom h (n - i) room → HasRoom h ((n - (i + 1)) + 1) room
 room_for_one h n i room inside has = subst (λ m. HasRoom h m room) (let e : n - i ≡ (n - (i + 1)) + 1 = omega (arith, inside) in e) has
 
+one_later : (h : Header) (n i len : ℕ) → HasRoom h (n + (i + 1)) len → HasRoom h (n + 1 + i) len
+one_later h n i len has = subst (λ m. HasRoom h m len) (let e : n + (i + 1) ≡ n + 1 + i = omega arith in e) has
+
+-- what was enough for all is enough for none more once all were added
+pub none_left : (first h : Header) (count i len : ℕ) → i ≤ count → ((n len : ℕ) → HasRoom first (n + i) len → HasRoom h n len) → HasRoom first count len → HasRoom h 0 len
+none_left first h count i len within takes enough = takes 0 len (room_fewer first (0 + i) count len (omega (arith, within)) enough)
+
 pub pushed : (first : Header) (first_body : List (List ℕ)) (h g : Header) (body new : List (List ℕ)) (cs : List ℕ) (i d c : ℕ) → i < length cs → get_or cs i d ≡ c
-    → AddsLeft first first_body h body cs i → length new ≡ length body → IsWithin g (length body) → ((n : ℕ) → HasRoom h (n + 1) (length body) → HasRoom g n (length body))
+    → AddsLeft first first_body h body cs i → length new ≡ length body → IsWithin g (length body) → ((n len : ℕ) → HasRoom h (n + 1) len → HasRoom g n len)
     → sketch_in g new ≡ add (sketch_in h body) (set_of (c ∷ [])) → g.widths ≡ h.widths → AddsLeft first first_body g new cs (i + 1)
 pushed first first_body h g body new cs i d c inside is left size within room made widths = record {
   widths = widths ∙ left.widths;
+  takes = λ n len enough. room n len (left.takes (n + 1) len (one_later first n i len enough));
   within = subst (IsWithin g) (sym size) within;
-  room = subst (HasRoom g (length cs - (i + 1))) (sym size) (room (length cs - (i + 1)) (room_for_one h (length cs) i (length body) inside left.room));
+  room = subst (HasRoom g (length cs - (i + 1))) (sym size) (room (length cs - (i + 1)) (length body) (room_for_one h (length cs) i (length body) inside left.room));
   same = ap (λ x. add_in_turn x (drop (i + 1) cs)) (made ∙ ap (λ c. add (sketch_in h body) (set_of (c ∷ []))) (sym is))
       ∙ sym (ap (add_in_turn (sketch_in h body)) (drop_more cs i d inside)) ∙ left.same;
 }
@@ -68,17 +77,19 @@ pub record AddsStrings (first : Header) (first_body : List (List ℕ)) (h : Head
   pub within : IsWithin h (length body)
   pub room : HasRoom h (length ends - i) (length body)
   pub widths : h.widths ≡ first.widths
+  pub takes : (n len : ℕ) → HasRoom first (n + i) len → HasRoom h n len
   pub same : add_in_turn (sketch_in h body) (coupons_from start values (drop i ends)) ≡ add_in_turn (sketch_in first first_body) (coupons_from 0 values ends)
 
 pub string_pushed : (first : Header) (first_body : List (List ℕ)) (h g : Header) (body new : List (List ℕ)) (values ends : List ℕ) (start i d c : ℕ) → i < length ends
     → coupon_of_bytes (take (get_or ends i d - start) (drop start values)) ≡ c
-    → AddsStrings first first_body h body values ends start i → length new ≡ length body → IsWithin g (length body) → ((n : ℕ) → HasRoom h (n + 1) (length body) → HasRoom g n (length body))
+    → AddsStrings first first_body h body values ends start i → length new ≡ length body → IsWithin g (length body) → ((n len : ℕ) → HasRoom h (n + 1) len → HasRoom g n len)
     → sketch_in g new ≡ add (sketch_in h body) (set_of (c ∷ [])) → g.widths ≡ h.widths → AddsStrings first first_body g new values ends (get_or ends i d) (i + 1)
 string_pushed first first_body h g body new values ends start i d c inside is left size within room made widths = record {
   widths = widths ∙ left.widths;
+  takes = λ n len enough. room n len (left.takes (n + 1) len (one_later first n i len enough));
   are = (ends_here (length values) ends i d inside start left.are).2;
   within = subst (IsWithin g) (sym size) within;
-  room = subst (HasRoom g (length ends - (i + 1))) (sym size) (room (length ends - (i + 1)) (room_for_one h (length ends) i (length body) inside left.room));
+  room = subst (HasRoom g (length ends - (i + 1))) (sym size) (room (length ends - (i + 1)) (length body) (room_for_one h (length ends) i (length body) inside left.room));
   same = ap (λ x. add_in_turn x (coupons_from (get_or ends i d) values (drop (i + 1) ends))) (made ∙ ap (λ c. add (sketch_in h body) (set_of (c ∷ []))) (sym is))
       ∙ sym (ap (λ xs. add_in_turn (sketch_in h body) (map coupon_of_bytes xs)) (strings_here start values ends i d inside)) ∙ left.same;
 }

@@ -13,7 +13,7 @@ ghost use Rattle.hll_sketch.specs.Value.{IsLgK, IsLegal};
 ghost use Rattle.hll_state.specs.Counter.{sketch_in, content_of, IsResolved, AreResolved};
 ghost use Rattle.hll_state.specs.Header.{IsWithin, AreWithin, HasRoom};
 ghost use Rattle.hll_state.specs.Header as headers;
-ghost use Rattle.hll_state.specs.Memory.{HasHeader, IsState, IsStateOf, OfState, IsOnlyRead, IsSettled, KeepsWidths};
+ghost use Rattle.hll_state.specs.Memory.{HasHeader, IsState, IsStateOf, OfState, IsOnlyRead, IsSettled, IsGrownBy, GrowsBy};
 ghost use Rattle.hll_state.specs.Memory.{is_open as is_lg_k_open};
 ghost use Rattle.hll_state.specs.Merged.{HasLegalRegisters};
 ghost use Rattle.hll_state.specs.Registers.{values};
@@ -80,7 +80,7 @@ pub(crate) fn make(lg_k: u8, is_open: bool, state: &mut [[u8; 4]]) -> Header
 /// Adds the coupons of byte strings.
 pub(crate) fn add(state: &mut [[u8; 4]], values: &[u8], ends: &[usize], size: &mut usize) -> u8
     ensures added { AddsToState (AreEnds (length values.now) ends.now × TakesValues state.old) (map coupon_of_bytes (strings values.now ends.now)) state.old state.new size.old size.new result }
-    ensures widths { KeepsWidths state.old state.new }
+    ensures grows { GrowsBy (length ends.now) state.old state.new }
     ensures lg_k_open { is_lg_k_open state.new ≡ is_lg_k_open state.old }
 {
     if is_open(state) {
@@ -117,7 +117,7 @@ fn push_values(header: &mut Header, body: &mut [[u8; 4]], values: &[u8], ends: &
     requires ends { AreEnds (length values.now) ends.now }
     ensures within { IsWithin header.new (length body.old) }
     ensures added { sketch_in header.new body.new ≡ add_in_turn (sketch_in header.old body.old) (map coupon_of_bytes (strings values.now ends.now)) }
-    ensures widths { header.new.widths ≡ header.old.widths }
+    ensures grows { IsGrownBy (length ends.now) header.old header.new }
 {
     let mut start = 0;
     for end in ends {
@@ -129,7 +129,7 @@ fn push_values(header: &mut Header, body: &mut [[u8; 4]], values: &[u8], ends: &
 /// Adds raw coupons.
 pub(crate) fn add_coupons(state: &mut [[u8; 4]], coupons: &[u32], size: &mut usize) -> u8
     ensures added { AddsToState (HaveValues coupons.now × TakesValues state.old) coupons.now state.old state.new size.old size.new result }
-    ensures widths { KeepsWidths state.old state.new }
+    ensures grows { GrowsBy (length coupons.now) state.old state.new }
     ensures lg_k_open { is_lg_k_open state.new ≡ is_lg_k_open state.old }
 {
     if is_open(state) {
@@ -152,7 +152,7 @@ pub(crate) fn add_coupons(state: &mut [[u8; 4]], coupons: &[u32], size: &mut usi
 /// Adds the coupon of a byte string.
 pub(crate) fn add_value(state: &mut [[u8; 4]], value: &[u8], size: &mut usize) -> u8
     ensures added { AddsToState (TakesValues state.old) (coupon_of_bytes value.now ∷ []) state.old state.new size.old size.new result }
-    ensures widths { KeepsWidths state.old state.new }
+    ensures grows { GrowsBy 1 state.old state.new }
     ensures lg_k_open { is_lg_k_open state.new ≡ is_lg_k_open state.old }
 {
     let raw = Coupon::from_bytes(value).raw();
@@ -169,7 +169,7 @@ pub(crate) fn add_value(state: &mut [[u8; 4]], value: &[u8], size: &mut usize) -
 #[inline(always)]
 fn add_few(state: &mut [[u8; 4]], raw: u32, size: &mut usize) -> u8
     ensures added { AddsToState (TakesValues state.old) (raw ∷ []) state.old state.new size.old size.new result }
-    ensures widths { KeepsWidths state.old state.new }
+    ensures grows { GrowsBy 1 state.old state.new }
     ensures lg_k_open { is_lg_k_open state.new ≡ is_lg_k_open state.old }
 {
     if append_in_place(state, raw) {
@@ -184,7 +184,7 @@ fn add_few(state: &mut [[u8; 4]], raw: u32, size: &mut usize) -> u8
 fn append_in_place(state: &mut [[u8; 4]], raw: u32) -> bool
     ensures decided { result ≡ true → TakesValues state.old }
     ensures added { result ≡ true → OfState state.old (λ x. IsStateOf state.new (add_in_turn x (raw ∷ []))) }
-    ensures widths { KeepsWidths state.old state.new }
+    ensures grows { GrowsBy 1 state.old state.new }
     ensures lg_k_open { is_lg_k_open state.new ≡ is_lg_k_open state.old }
     ensures none { result ≡ false → state.new ≡ state.old }
 {
@@ -199,7 +199,7 @@ fn append_in_place(state: &mut [[u8; 4]], raw: u32) -> bool
 #[inline(never)]
 fn add_raw(state: &mut [[u8; 4]], raw: u32, size: &mut usize) -> u8
     ensures added { AddsToState (TakesValues state.old) (raw ∷ []) state.old state.new size.old size.new result }
-    ensures widths { KeepsWidths state.old state.new }
+    ensures grows { GrowsBy 1 state.old state.new }
     ensures lg_k_open { is_lg_k_open state.new ≡ is_lg_k_open state.old }
 {
     match open(state) {
@@ -213,7 +213,7 @@ fn add_raw(state: &mut [[u8; 4]], raw: u32, size: &mut usize) -> u8
 fn add_with(state: &mut [[u8; 4]], header: Header, raw: u32, size: &mut usize) -> u8
     requires header { HasHeader state.old header }
     ensures added { AddsToState (Unit {0}) (raw ∷ []) state.old state.new size.old size.new result }
-    ensures widths { KeepsWidths state.old state.new }
+    ensures grows { GrowsBy 1 state.old state.new }
     ensures lg_k_open { is_lg_k_open state.new ≡ is_lg_k_open state.old }
 {
     if add_in_place(state, header, raw) {
@@ -235,7 +235,7 @@ fn push_coupons(header: &mut Header, body: &mut [[u8; 4]], coupons: &[u32])
     requires room { HasRoom header.old (length coupons.now) (length body.old) }
     ensures within { IsWithin header.new (length body.old) }
     ensures added { sketch_in header.new body.new ≡ add_in_turn (sketch_in header.old body.old) coupons.now }
-    ensures widths { header.new.widths ≡ header.old.widths }
+    ensures grows { IsGrownBy (length coupons.now) header.old header.new }
 {
     for raw in coupons {
         header.push(body, *raw);
@@ -353,7 +353,7 @@ pub(crate) fn image_of_legal(
 /// are copied or packed once, into the image.
 ///
 /// Fails with `Memory`.
-fn image_of_registers(
+pub(crate) fn image_of_registers(
     alloc: Global,
     lg_k: u8,
     hll_type: HllType,

@@ -1,6 +1,6 @@
 -- SPDX-License-Identifier: Apache-2.0
 -- States without pairs, and coupons that are copied with their table.
-use Rattle.std.proofs.Common.{◌≡◌, ◌≢◌, ℕ, ◌+◌, ◌-◌, ◌^◌, ◌<◌, ◌≤◌, ◌*◌, Bool, true, false, leb, nat_eq, List, [], Option, Some, None, length, take, refl, sym, ap, ◌∙◌, inl, inr, arith}
+use Rattle.std.proofs.Common.{◌≡◌, ◌≢◌, ℕ, ◌-◌, ◌^◌, ◌<◌, ◌≤◌, ◌*◌, Bool, true, false, leb, nat_eq, List, [], Option, Some, None, length, take, refl, sym, ap, ◌∙◌, inl, inr, arith}
 use Rattle.std.specs.Prelude.{max}
 use Rattle.std.specs.Cmp.{both_ways}
 use Rattle.std.specs.FinSet.{len, len-empty}
@@ -18,7 +18,7 @@ use Rattle.hll_sketch.specs.Stage.{stage}
 use Rattle.hll_sketch.specs.Value.{Sketch, IsLgK, IsTableFor, in_registers, is_empty, pairs_in}
 use Rattle.hll_state.specs.Counter.{sketch_in, content_of, content_of_coupons, AreResolved}
 use Rattle.hll_state.specs.CouponRun.{members, raws}
-use Rattle.hll_state.specs.Header.{new_header, are_few, greatest_size, elements_for, most_used, most_elements, AreWithin, IsHeldWithin, IsWithin, HasRoom, HasRoomFor}
+use Rattle.hll_state.specs.Header.{new_header, are_few, greatest_size, elements_for, most_used, most_elements, AreWithin, IsHeldWithin, IsWithin}
 use Rattle.hll_state.specs.Merged.{HasSomeRegister, is_unused}
 use Rattle.hll_state.specs.declared.header.CouponTable.{CouponTable}
 use Rattle.hll_state.specs.declared.header.Held.{Held}
@@ -148,11 +148,3 @@ run_within k n p room r table enough run fewer =
     taken : IsTableFor k n p → IsTableFor k r.used p
     taken (inl few) = inl (few.0, omega (arith, few.1, fewer))
     taken (inr large) = inr (large.0, large.1, omega (arith, large.2, fewer))
-
--- room for more is room for fewer
-pub fewer_room : (h : Header) (n m room : ℕ) → n ≤ m → HasRoom h m room → HasRoom h n room
-fewer_room h n m room le has = of h.held has
-  where
-    of : (held : Held) → HasRoomFor h.lg_k held m room → HasRoomFor h.lg_k held n room
-    of (Coupons c) has = omega (arith, elements_mono h.lg_k (c.run.used + n) (c.run.used + m) (omega (arith, le)), has)
-    of (Registers s) has = has

@@ -73,6 +73,7 @@ merged_joined b others widths y old old_body new new_body Done within some same 
   accepted = λ not_zero. not_refused b (sketch_in old old_body) y same;
   is = λ not_zero. is.is not_zero ∙ sym (joined-same b (sketch_in old old_body) y some same);
   empty = λ not_zero. unused_is_empty old old_body within not_zero;
+  takes = λ len enough to_merge. is.takes len (subst (λ h. HasRoomToMerge h y len) (started_header-same b old y same) to_merge);
   widths = is.widths_are ∙ widths_are;
 }
 merged_joined b others widths y old old_body new new_body (NoRoom len) within some same widths_are is =
@@ -81,6 +82,7 @@ merged_joined b others widths y old old_body new new_body (NoRoom len) within so
       kept = is.kept;
       widths = is.widths;
       accepted = λ not_zero. not_refused b (sketch_in old old_body) y same;
+      keeps = is.keeps;
       lacks = subst (λ h. HasRoomToMerge h y (length old_body) → ⊥) (sym (started_header-same b old y same)) is.lacks;
       enough = subst (λ h. AreEnoughToMerge y h len) (sym (started_header-same b new y (ap (λ k. lg_ks_differ b k y) kept ∙ same))) is.enough;
       short = is.short;

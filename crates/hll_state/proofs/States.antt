@@ -8,11 +8,12 @@ use Rattle.std.proofs.lemmas.List.{length-append, length-take-le, take_at}
 use Rattle.std.proofs.lemmas.List.{length-drop, take_all, drop_all, append-nil}
 use borrow.Rule.Slice.PartMut.{mid_of, put_mid}
 use Rattle.hll_sketch.specs.Value.{Sketch, IsLegal, IsLegalContent}
+use Rattle.hll_state.proofs.Rooms.{room_fewer}
 use Rattle.hll_state.specs.Counter.{sketch_in, content_of}
 use Rattle.hll_state.specs.CouponRun.{raws}
 use Rattle.hll_state.specs.Header.{header_of, IsWithin, HasRoom, most_used}
 use Rattle.hll_state.specs.Joined.{AreEnoughToMerge}
-use Rattle.hll_state.specs.Memory.{HasHeader, IsStateOf, OfState, HasWidths, KeepsWidths, IsOnlyRead, IsReady, AreEnough, is_open}
+use Rattle.hll_state.specs.Memory.{HasHeader, IsStateOf, OfState, HasWidths, IsGrownBy, GrowsBy, IsOnlyRead, IsReady, AreEnough, is_open}
 use Rattle.hll_state.specs.Merged.{AreHeldRegistersLegal, HasLegalRegisters}
 use Rattle.hll_state.specs.declared.header.Header.{Header}
 use Rattle.hll_state.specs.declared.header.Held.{Held}
@@ -83,18 +84,29 @@ kept old new g h was is same = record {
 pub same_widths : (elements : List (List ℕ)) (g : Header) → HasHeader elements g → HasWidths elements g.widths
 same_widths elements g is h has = ap (λ (h : Header). h.widths) (one_header elements h g has is)
 
--- a header that was written has the widths of the one that was read
-pub keeps : (old new : List (List ℕ)) (g h : Header) → HasHeader old g → HasHeader new h → h.widths ≡ g.widths → KeepsWidths old new
-keeps old new g h was is same x had y has = same_widths new h is y has ∙ same ∙ sym (same_widths old g was x had)
+-- ---- what a state takes
 
-pub keeps_own : (elements : List (List ℕ)) → KeepsWidths elements elements
-keeps_own elements g is = same_widths elements g is
+-- what holds of a header that was read and of one that was written holds of the states
+pub grows : (n : ℕ) (old new : List (List ℕ)) (h g : Header) → HasHeader old h → HasHeader new g → IsGrownBy n h g → GrowsBy n old new
+grows n old new h g was is grown x had y has = subst (IsGrownBy n x) (one_header new g y is has) (subst (λ (x : Header). IsGrownBy n x g) (one_header old h x was had) grown)
+
+pub grows_own : (n : ℕ) (elements : List (List ℕ)) → GrowsBy n elements elements
+grows_own n elements h had g has = record {
+  widths = sym (same_widths elements g has h had);
+  takes = λ room enough. room_fewer g 0 n room (omega arith) (subst (λ (x : Header). HasRoom x n room) (one_header elements h g had has) enough);
+}
+
+pub grows_more : (n : ℕ) (old new : List (List ℕ)) → GrowsBy 0 old new → GrowsBy n old new
+grows_more n old new none h had g has = record {
+  widths = (none h had g has).widths;
+  takes = λ room enough. (none h had g has).takes room (room_fewer h 0 n room (omega arith) enough);
+}
 
 -- elements that aren't written
 pub read_own : (elements : List (List ℕ)) → IsOnlyRead elements elements
 read_own elements = record {
   kept = λ s. record { sketch = sketch_in s.header (drop 10 elements); was = means elements s.header s.has; is = means elements s.header s.has };
-  widths = keeps_own elements;
+  grows = grows_own 0 elements;
   resolved = λ h has is. refl;
   unchanged = λ none. refl;
   lg_k_open = refl;
@@ -145,9 +157,10 @@ module _ (n : ℕ) (old new : List (List ℕ)) (h : Header) (ready : IsReady n o
       let is : f ready.means.sketch ≡ sketch_in g (drop 10 final) = ap f (ready.means.is ∙ ap (sketch_in h) (sym (rest_borrowed new))) ∙ sym made ∙ ap (sketch_in g) (sym (rest ∙ rest_written new body there)) in
       record { sketch = ready.means.sketch; was = ready.means.was; is = record { state = record { header = g; has = has }; is = is } }
 
-  -- its widths stay
-  pub closed_widths : (g : Header) (final : List (List ℕ)) → HasHeader final g → g.widths ≡ h.widths → KeepsWidths old final
-  closed_widths g final has kept_widths x had y is = same_widths final g has y is ∙ kept_widths ∙ sym (ready.widths x had)
+  -- its widths stay, and it takes no more elements than were enough
+  pub closed_grows : (g : Header) (final : List (List ℕ)) → HasHeader final g → g.widths ≡ h.widths → ((len : ℕ) → HasRoom h n len → HasRoom g 0 len) → GrowsBy n old final
+  closed_grows g final has kept_widths takes x had y is =
+      subst (IsGrownBy n x) (one_header final g y has is) (record { widths = kept_widths ∙ sym (ready.widths x had); takes = λ len enough. takes len (ready.keeps x had n len enough) })
 
 -- enough elements are fewer than 2^32
 pub enough_fits : (elements : List (List ℕ)) (n len : ℕ) → AreEnough elements n len → len < 2 ^ 32

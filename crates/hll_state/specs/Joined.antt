@@ -5,7 +5,7 @@ use Rattle.hll_base.specs.declared.hll_type.HllType.TheVariants.{Hll8}
 use Rattle.hll_sketch.specs.Merging.{merge}
 use Rattle.hll_sketch.specs.Value.{Sketch, IsLgK, is_empty, empty_sketch}
 use Rattle.hll_state.specs.Counter.{sketch_in}
-use Rattle.hll_state.specs.Header.{new_header, most_elements, IsWithin, HasShortTail}
+use Rattle.hll_state.specs.Header.{new_header, most_elements, HasRoom, IsWithin, HasShortTail}
 use Rattle.hll_state.specs.Merged.{HasSomeRegister, HasRoomToMerge, is_unused, len_asked_for}
 use Rattle.hll_state.specs.declared.header.Header.{Header}
 use Rattle.hll_state.specs.declared.join.Joined.{Joined}
@@ -52,13 +52,15 @@ pub record JoinsEmpty (bounded : Bool) (widths k : ℕ) (old new : Header) (body
   pub within : IsWithin old (length body) → IsWithin new (length body)
   pub is : IsWithin old (length body) → HasSomeRegister (sketch_in old body) → sketch_in new body ≡ raised bounded k (sketch_in old body)
   pub widths_are : new.widths ≡ widths
+  pub takes : (room : ℕ) → HasRoom old 0 room → HasRoom new 0 room
 
 -- ---- what merging gives
 
--- a sketch was merged, and widths were set
-pub record IsMerged (widths : ℕ) (y x : Sketch) (k : ℕ) (new : Header) (z : Sketch) : Type 0 where
-  pub is : HasSomeRegister x → z ≡ merge k x y
+-- a sketch was merged, and widths were set; the state takes no more elements than were enough to merge it
+pub record IsMerged (widths : ℕ) (y x : Sketch) (old new : Header) (z : Sketch) : Type 0 where
+  pub is : HasSomeRegister x → z ≡ merge old.lg_k x y
   pub widths_are : new.widths ≡ widths
+  pub takes : (room : ℕ) → HasRoomToMerge old y room → HasRoom new 0 room
 
 -- this number of elements is asked for and enough to merge a sketch, and no more than any state of the lg_k needs
 pub record AreEnoughToMerge (y : Sketch) (h : Header) (len : ℕ) : Type 0 where
@@ -72,29 +74,32 @@ pub record AreEnoughToMerge (y : Sketch) (h : Header) (len : ℕ) : Type 0 where
 pub record LacksRoomToMerge (y : Sketch) (old : Header) (old_body : List (List ℕ)) (new : Header) (new_body : List (List ℕ)) (len : ℕ) : Type 0 where
   pub kept : sketch_in new new_body ≡ sketch_in old old_body
   pub widths : new.widths ≡ old.widths
+  pub keeps : (room : ℕ) → HasRoom old 0 room → HasRoom new 0 room
   pub lacks : HasRoomToMerge old y (length old_body) → ⊥
   pub enough : AreEnoughToMerge y new len
   pub short : HasShortTail new.held
 
 -- a sketch is merged; or there is not enough room, and the sketch of the state is unchanged
 abbrev pub MergesInto : ℕ → Sketch → Header → List (List ℕ) → Header → List (List ℕ) → Joined → Type 0
-MergesInto widths y old old_body new new_body Done = IsMerged widths y (sketch_in old old_body) old.lg_k new (sketch_in new new_body)
+MergesInto widths y old old_body new new_body Done = IsMerged widths y (sketch_in old old_body) old new (sketch_in new new_body)
 MergesInto widths y old old_body new new_body (NoRoom len) = LacksRoomToMerge y old old_body new new_body len
 MergesInto widths y old old_body new new_body OtherLgK = ⊥
 
 -- a sketch is merged into the empty one at its lg_k; or there is not enough room, and the header is unchanged
 abbrev pub Restarts : ℕ → Sketch → Header → List (List ℕ) → Header → List (List ℕ) → Joined → Type 0
-Restarts widths y old old_body new new_body Done = IsMerged widths y (empty_sketch y.lg_k Hll8) y.lg_k new (sketch_in new new_body)
+Restarts widths y old old_body new new_body Done = IsMerged widths y (empty_sketch y.lg_k Hll8) (restarted y.lg_k old.widths) new (sketch_in new new_body)
 Restarts widths y old old_body new new_body (NoRoom len) = (new ≡ old) × (HasRoomToMerge (restarted y.lg_k old.widths) y (length old_body) → ⊥) × AreEnoughToMerge y (restarted y.lg_k old.widths) len
 Restarts widths y old old_body new new_body OtherLgK = ⊥
 
 -- ---- what `Header::join` gives
 
--- the sketches are merged, of the same lg_k or under a bound; for the widths, the first is empty if no element is in use
+-- the sketches are merged, of the same lg_k or under a bound; for the widths, the first is empty if no element is in use. The
+-- state takes no more elements than were enough for it before and to merge the other
 pub record AreJoined (bounded : Bool) (others : ℕ) (y x : Sketch) (old new : Header) (z : Sketch) : Type 0 where
   pub accepted : HasSomeRegister x → is_refused bounded x y ≡ false
   pub is : HasSomeRegister x → z ≡ joined bounded x y
   pub empty : HasSomeRegister x → is_unused old.held ≡ is_empty x
+  pub takes : (room : ℕ) → HasRoom old 0 room → HasRoomToMerge (started_header bounded old y) y room → HasRoom new 0 room
   pub widths : new.widths ≡ widths_after old.widths others (is_unused old.held) (is_empty y)
 
 -- there is not enough room, the sketch of the state is unchanged, and this number of elements is enough
@@ -102,6 +107,7 @@ pub record LacksRoomToJoin (bounded : Bool) (y x : Sketch) (old new : Header) (z
   pub kept : z ≡ x
   pub widths : new.widths ≡ old.widths
   pub accepted : HasSomeRegister x → is_refused bounded x y ≡ false
+  pub keeps : (m : ℕ) → HasRoom old 0 m → HasRoom new 0 m
   pub lacks : HasRoomToMerge (started_header bounded old y) y room → ⊥
   pub enough : AreEnoughToMerge y (started_header bounded new y) len
   pub short : HasShortTail new.held

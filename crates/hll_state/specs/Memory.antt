@@ -44,19 +44,25 @@ pub record OfState (elements : List (List ℕ)) (Is : Sketch → Type 0) : Type 
 abbrev pub HasWidths : List (List ℕ) → ℕ → Type 0
 HasWidths elements widths = (h : Header) → HasHeader elements h → h.widths ≡ widths
 
--- a state records the same widths as before
-abbrev pub KeepsWidths : List (List ℕ) → List (List ℕ) → Type 0
-KeepsWidths old new = (h : Header) → HasHeader old h → HasWidths new h.widths
+-- the header of a state before and after n coupons were added: it records the same widths, and elements that were enough for n
+-- more coupons are enough for the state
+pub record IsGrownBy (n : ℕ) (h g : Header) : Type 0 where
+  pub widths : g.widths ≡ h.widths
+  pub takes : (room : ℕ) → HasRoom h n room → HasRoom g 0 room
+
+-- if elements were a state and are a state, at most n coupons were added
+abbrev pub GrowsBy : ℕ → List (List ℕ) → List (List ℕ) → Type 0
+GrowsBy n old new = (h : Header) → HasHeader old h → (g : Header) → HasHeader new g → IsGrownBy n h g
 
 -- the sketch of a state can be read from the elements as they are, so that reading it changes none
 abbrev pub IsSettled : List (List ℕ) → Type 0
 IsSettled elements = (h : Header) → HasHeader elements h → IsResolved h (drop 10 elements)
 
--- a state is only read, and its sketch and widths are unchanged; elements are unchanged if they hold registers, if they hold
--- coupons that ascend, or if they are not a state
+-- a state is only read: its sketch and widths are unchanged, and it takes no more elements. Elements are unchanged if they hold
+-- registers, if they hold coupons that ascend, or if they are not a state
 pub record IsOnlyRead (old new : List (List ℕ)) : Type 0 where
   pub kept : IsState old → OfState old (IsStateOf new)
-  pub widths : KeepsWidths old new
+  pub grows : GrowsBy 0 old new
   pub resolved : (h : Header) → HasHeader old h → IsResolved h (drop 10 old) → new ≡ old
   pub unchanged : (IsState old → ⊥) → new ≡ old
   pub lg_k_open : is_open new ≡ is_open old
@@ -82,7 +88,7 @@ pub record IsNone (old new : List (List ℕ)) : Type 0 where
 -- there is not enough room, the sketch and the widths are unchanged, and this number of elements is enough
 pub record LacksRoom (n : ℕ) (old new : List (List ℕ)) (len : ℕ) : Type 0 where
   pub kept : OfState old (IsStateOf new)
-  pub widths : KeepsWidths old new
+  pub grows : GrowsBy 0 old new
   pub lacks : HasRoomIn old n (length old) → ⊥
   pub enough : AreEnough new n len
   pub lg_k_open : is_open new ≡ is_open old
@@ -93,6 +99,7 @@ pub record IsReady (n : ℕ) (old new : List (List ℕ)) (h : Header) : Type 0 w
   pub within : IsWithin h (length old - 10)
   pub room : HasRoom h n (length old - 10)
   pub means : OfState old (λ x. x ≡ sketch_in h (drop 10 new))
+  pub keeps : (g : Header) → HasHeader old g → (m len : ℕ) → HasRoom g m len → HasRoom h m len
   pub widths : HasWidths old h.widths
   pub lg_k_open : is_open new ≡ is_open old
 

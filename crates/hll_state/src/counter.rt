@@ -32,7 +32,7 @@ impl Header {
         ensures lg_k { self.new.lg_k ≡ self.old.lg_k }
         ensures widths { self.new.widths ≡ self.old.widths }
         ensures fewer { used_in self.new.held ≤ used_in self.old.held }
-        ensures room { (n : ℕ) → HasRoom self.old n (length body.old) → HasRoom self.new n (length body.old) }
+        ensures room { (n room : ℕ) → HasRoom self.old n room → HasRoom self.new n room }
     {
         if let Held::Coupons(coupons) = self.held {
             self.held = coupons.resolved(body, self.lg_k);
@@ -86,7 +86,7 @@ impl Header {
         ensures within { IsWithin self.new (length body.old) }
         ensures added { sketch_in self.new body.new ≡ add (sketch_in self.old body.old) (set_of (raw ∷ [])) }
         ensures widths { self.new.widths ≡ self.old.widths }
-        ensures room { (n : ℕ) → HasRoom self.old (n + 1) (length body.old) → HasRoom self.new n (length body.old) }
+        ensures room { (n room : ℕ) → HasRoom self.old (n + 1) room → HasRoom self.new n room }
     {
         if !self.has_raised(body, raw) {
             self.push_higher(body, raw);
@@ -101,7 +101,7 @@ impl Header {
         ensures within { IsWithin self.new (length body.old) }
         ensures added { sketch_in self.new body.new ≡ add (sketch_in self.old body.old) (set_of (raw ∷ [])) }
         ensures widths { self.new.widths ≡ self.old.widths }
-        ensures room { (n : ℕ) → HasRoom self.old (n + 1) (length body.old) → HasRoom self.new n (length body.old) }
+        ensures room { (n room : ℕ) → HasRoom self.old (n + 1) room → HasRoom self.new n room }
     {
         self.leave_element(body);
         self.held = match self.held {
@@ -119,7 +119,7 @@ impl Header {
         ensures same { (T : Pairs) → add (sketch_in self.new body.new) T ≡ add (sketch_in self.old body.old) T }
         ensures left { HasElementLeft self.new.lg_k self.new.held }
         ensures widths { self.new.widths ≡ self.old.widths }
-        ensures room { (n : ℕ) → HasRoom self.old n (length body.old) → HasRoom self.new n (length body.old) }
+        ensures room { (n room : ℕ) → HasRoom self.old n room → HasRoom self.new n room }
     {
         if let Held::Coupons(coupons) = self.held
             && coupons.run.used == most_used(self.lg_k)
@@ -164,7 +164,7 @@ impl CouponTable {
         ensures resolved { IsHeldResolved lg_k result body.new }
         ensures left { self.added ≡ true → HasElementLeft lg_k result }
         ensures fewer { used_in result ≤ self.run.used }
-        ensures room { (n : ℕ) → HasRoomFor lg_k (spec.of_coupons self) n (length body.old) → HasRoomFor lg_k result n (length body.old) }
+        ensures room { (n room : ℕ) → HasRoomFor lg_k (spec.of_coupons self) n room → HasRoomFor lg_k result n room }
     {
         self.run.settle(body);
         if self.added && stage(lg_k, self.lg_size, self.run.used).is_none() {
@@ -183,7 +183,7 @@ impl CouponTable {
         requires left { HasElementLeft lg_k (spec.of_coupons self) }
         ensures within { AreWithin lg_k result (length body.old) }
         ensures added { content_of lg_k (spec.of_coupons result) body.new ≡ content_with lg_k (content_of lg_k (spec.of_coupons self) body.old) (set_of (raw ∷ [])) }
-        ensures room { (n : ℕ) → HasRoomFor lg_k (spec.of_coupons self) (n + 1) (length body.old) → HasRoomFor lg_k (spec.of_coupons result) n (length body.old) }
+        ensures room { (n room : ℕ) → HasRoomFor lg_k (spec.of_coupons self) (n + 1) room → HasRoomFor lg_k (spec.of_coupons result) n room }
         ensures size { result.lg_size ≡ self.lg_size }
         ensures added_one { result.added ≡ true }
     {
@@ -205,6 +205,7 @@ impl CouponTable {
         requires few { self.run.used + length others.now ≤ most_used lg_k }
         ensures within { AreWithin lg_k result (length body.old) }
         ensures added { content_of lg_k (spec.of_coupons result) body.new ≡ content_with lg_k (content_of lg_k (spec.of_coupons self) body.old) (set_of (raws others.now)) }
+        ensures room { (n room : ℕ) → HasRoomFor lg_k (spec.of_coupons self) (n + length others.now) room → HasRoomFor lg_k (spec.of_coupons result) n room }
     {
         self.added = true;
         self.run.extend(body, others);

@@ -10,7 +10,7 @@ ghost use Rattle.hll_state.specs.Header.{header_of, IsWithin, HasRoom, HasShortT
 ghost use Rattle.hll_state.specs.Memory as spec;
 ghost use Rattle.hll_state.specs.declared.header.CouponTable.{CouponTable};
 ghost use Rattle.hll_state.specs.declared.header.Header.{Header};
-ghost use Rattle.hll_state.specs.Memory.{HasHeader, IsState, IsStateOf, OfState, KeepsWidths, IsOnlyRead, IsSettled, IsBegun, IsReady, LacksRoom};
+ghost use Rattle.hll_state.specs.Memory.{HasHeader, IsState, IsStateOf, OfState, GrowsBy, IsOnlyRead, IsSettled, IsBegun, IsReady, LacksRoom};
 
 use crate::elements::get;
 use crate::header::{
@@ -105,7 +105,7 @@ pub fn has_raised(elements: &[[u8; 4]], raw: u32) -> bool
 pub fn add_in_place(elements: &mut [[u8; 4]], header: Header, raw: u32) -> bool
     requires header { HasHeader elements.old header }
     ensures added { result ≡ true → OfState elements.old (λ x. IsStateOf elements.new (add_in_turn x (raw ∷ []))) }
-    ensures widths { KeepsWidths elements.old elements.new }
+    ensures grows { GrowsBy 1 elements.old elements.new }
     ensures lg_k_open { spec.is_open elements.new ≡ spec.is_open elements.old }
     ensures none { result ≡ false → elements.new ≡ elements.old }
 {
@@ -124,7 +124,7 @@ pub fn may_hold_coupons(elements: &[[u8; 4]]) -> bool {
 pub fn append(elements: &mut [[u8; 4]], header: Header, raw: u32) -> bool
     requires header { HasHeader elements.old header }
     ensures added { result ≡ true → OfState elements.old (λ x. IsStateOf elements.new (add_in_turn x (raw ∷ []))) }
-    ensures widths { KeepsWidths elements.old elements.new }
+    ensures grows { GrowsBy 1 elements.old elements.new }
     ensures lg_k_open { spec.is_open elements.new ≡ spec.is_open elements.old }
     ensures none { result ≡ false → elements.new ≡ elements.old }
 {
@@ -244,6 +244,7 @@ impl Header {
         ensures widths { self.new.widths ≡ self.old.widths }
         ensures room { result ≡ true → HasRoom self.new count (length body.old) }
         ensures none { result ≡ false → HasRoom self.old count (length body.old) → ⊥ }
+        ensures keeps { (n room : ℕ) → HasRoom self.old n room → HasRoom self.new n room }
         ensures short { result ≡ false → HasShortTail self.new.held }
     {
         let room = body.len();

@@ -1,6 +1,6 @@
 // SPDX-License-Identifier: Apache-2.0
 //! Merges coupons into a state. An empty state copies them with the size of their table; any other state adds them.
-ghost use Rattle.std.specs.Prelude.{◌≡◌, ℕ, ◌≤◌, true, false, List, length};
+ghost use Rattle.std.specs.Prelude.{◌≡◌, ℕ, ◌+◌, ◌≤◌, true, false, List, length};
 ghost use Rattle.hll_registers.specs.State.{cleared_state};
 ghost use Rattle.hll_sketch.specs.Laws.{add_in_turn};
 ghost use Rattle.hll_sketch.specs.Merging as merging;
@@ -41,6 +41,8 @@ impl Header {
         ensures same { result ≡ false → sketch_in self.new body.new ≡ sketch_in self.old body.old }
         ensures widths { self.new.widths ≡ self.old.widths }
         ensures none { result ≡ false → HasRoom self.old (length coupons.now) (length body.old) → ⊥ }
+        ensures takes { result ≡ true → (room : ℕ) → HasRoom self.old (length coupons.now) room → HasRoom self.new 0 room }
+        ensures keeps { result ≡ false → (n room : ℕ) → HasRoom self.old n room → HasRoom self.new n room }
         ensures short { result ≡ false → HasShortTail self.new.held }
     {
         if self.lg_k == lg_k && self.is_empty() {
@@ -76,6 +78,7 @@ impl Header {
         ensures same { result ≡ false → sketch_in self.new body.new ≡ sketch_in self.old body.old }
         ensures widths { self.new.widths ≡ self.old.widths }
         ensures none { result ≡ false → spec.elements_for self.old.lg_k (length coupons.now) ≤ length body.old → ⊥ }
+        ensures takes { result ≡ true → (room : ℕ) → spec.elements_for self.old.lg_k (length coupons.now) ≤ room → HasRoom self.new 0 room }
         ensures unchanged { result ≡ false → self.new ≡ self.old }
     {
         if body.len() < elements_for(self.lg_k, coupons.len()) {
@@ -100,6 +103,7 @@ impl Header {
         requires some { 1 ≤ length coupons.now }
         ensures within { IsWithin self.new (length body.old) }
         ensures added { sketch_in self.new body.new ≡ add_in_turn (sketch_in self.old body.old) (raws coupons.now) }
+        ensures room { (n room : ℕ) → HasRoom self.old (n + length coupons.now) room → HasRoom self.new n room }
         ensures widths { self.new.widths ≡ self.old.widths }
     {
         if self.has_cleared_registers() {

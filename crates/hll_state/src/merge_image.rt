@@ -1,12 +1,12 @@
 // SPDX-License-Identifier: Apache-2.0
 //! Merges sketches of images into a state.
-ghost use Rattle.std.specs.Prelude.{◌≡◌, ◌≤◌, true, false, length};
+ghost use Rattle.std.specs.Prelude.{◌≡◌, ℕ, ◌≤◌, true, false, length};
 ghost use Rattle.hll_sketch.specs.BorrowedImage.{sketch_of_borrowed};
 ghost use Rattle.hll_sketch.specs.Layout.{sketch_of};
 ghost use Rattle.hll_sketch.specs.Merging as merging;
 ghost use Rattle.hll_sketch.specs.Value.{is_empty};
 ghost use Rattle.hll_state.specs.Counter.{sketch_in};
-ghost use Rattle.hll_state.specs.Header.{IsWithin, HasShortTail};
+ghost use Rattle.hll_state.specs.Header.{IsWithin, HasRoom, HasShortTail};
 ghost use Rattle.hll_state.specs.Merged.{HasSomeRegister, HasRoomForContent, HasRoomToMerge};
 
 use crate::header::Header;
@@ -30,6 +30,8 @@ impl Header {
         ensures same { result ≡ false → sketch_in self.new body.new ≡ sketch_in self.old body.old }
         ensures widths { self.new.widths ≡ self.old.widths }
         ensures none { result ≡ false → HasRoomToMerge self.old (sketch_of_borrowed image.now) (length body.old) → ⊥ }
+        ensures takes { result ≡ true → (room : ℕ) → HasRoomToMerge self.old (sketch_of_borrowed image.now) room → HasRoom self.new 0 room }
+        ensures keeps { result ≡ false → (n room : ℕ) → HasRoom self.old n room → HasRoom self.new n room }
         ensures short { result ≡ false → HasShortTail self.new.held }
     {
         match image {
@@ -54,6 +56,9 @@ impl Header {
         ensures widths { self.new.widths ≡ self.old.widths }
         ensures none { let x = sketch_of sketch.now in
             result ≡ false → HasRoomForContent self.old x.lg_k x.content (length body.old) → ⊥ }
+        ensures takes { let x = sketch_of sketch.now in
+            result ≡ true → (room : ℕ) → HasRoomForContent self.old x.lg_k x.content room → HasRoom self.new 0 room }
+        ensures keeps { result ≡ false → (n room : ℕ) → HasRoom self.old n room → HasRoom self.new n room }
         ensures short { result ≡ false → HasShortTail self.new.held }
     {
         sketch.layout_is_legal();

@@ -11,7 +11,7 @@ ghost use Rattle.hll_sketch.specs.Value as content;
 ghost use Rattle.hll_sketch.specs.Value.{Sketch, in_registers, pairs_of};
 ghost use Rattle.hll_state.specs.Counter.{sketch_in, IsResolved};
 ghost use Rattle.hll_state.specs.CouponRun.{raws};
-ghost use Rattle.hll_state.specs.Header.{IsWithin, HasShortTail};
+ghost use Rattle.hll_state.specs.Header.{IsWithin, HasRoom, HasShortTail};
 ghost use Rattle.hll_state.specs.Merged.{HasSomeRegister, used_in};
 ghost use Rattle.hll_state.specs.Registers.{values};
 ghost use Rattle.hll_state.specs.declared.header.Held.TheVariants.{Registers};
@@ -39,6 +39,9 @@ impl Header {
         ensures widths { self.new.widths ≡ self.old.widths }
         ensures none { let x = R.stored src.now in
             result ≡ false → 2 ^ (min self.old.lg_k x.lg_k - 2) + used_in self.old.held ≤ length body.old → ⊥ }
+        ensures takes { let x = R.stored src.now in
+            result ≡ true → (room : ℕ) → 2 ^ (min self.old.lg_k x.lg_k - 2) + used_in self.old.held ≤ room → HasRoom self.new 0 room }
+        ensures keeps { result ≡ false → (n room : ℕ) → HasRoom self.old n room → HasRoom self.new n room }
         ensures short { result ≡ false → HasShortTail self.new.held }
     {
         let bound = self.lg_k;
@@ -64,6 +67,9 @@ impl Header {
         ensures widths { self.new.widths ≡ self.old.widths }
         ensures none { let x = src.now in
             result ≡ false → 2 ^ (min self.old.lg_k x.lg_k - 2) + used_in self.old.held ≤ length body.old → ⊥ }
+        ensures takes { let x = src.now in
+            result ≡ true → (room : ℕ) → 2 ^ (min self.old.lg_k x.lg_k - 2) + used_in self.old.held ≤ room → HasRoom self.new 0 room }
+        ensures keeps { result ≡ false → (n room : ℕ) → HasRoom self.old n room → HasRoom self.new n room }
         ensures short { result ≡ false → HasShortTail self.new.held }
     {
         let len = two_to(self.lg_k - 2);

@@ -1,6 +1,6 @@
 // SPDX-License-Identifier: Apache-2.0
 //! Merges coupons of a table into a state, as `merge_coupons` merges coupons of a slice.
-ghost use Rattle.std.specs.Prelude.{◌≡◌, ◌≤◌, true, false, length};
+ghost use Rattle.std.specs.Prelude.{◌≡◌, ℕ, ◌+◌, ◌≤◌, true, false, length};
 ghost use Rattle.hll_coupons.specs.Table.{coupons_in, coupons_of};
 ghost use Rattle.hll_sketch.specs.Laws.{add_in_turn};
 ghost use Rattle.hll_sketch.specs.Merging as merging;
@@ -32,6 +32,8 @@ impl Header {
         ensures same { result ≡ false → sketch_in self.new body.new ≡ sketch_in self.old body.old }
         ensures widths { self.new.widths ≡ self.old.widths }
         ensures none { result ≡ false → HasRoom self.old (length (coupons_in table.now.buckets)) (length body.old) → ⊥ }
+        ensures takes { result ≡ true → (room : ℕ) → HasRoom self.old (length (coupons_in table.now.buckets)) room → HasRoom self.new 0 room }
+        ensures keeps { result ≡ false → (n room : ℕ) → HasRoom self.old n room → HasRoom self.new n room }
         ensures short { result ≡ false → HasShortTail self.new.held }
     {
         if self.lg_k == lg_k && self.is_empty() {
@@ -53,6 +55,7 @@ impl Header {
         ensures same { result ≡ false → sketch_in self.new body.new ≡ sketch_in self.old body.old }
         ensures widths { self.new.widths ≡ self.old.widths }
         ensures none { result ≡ false → spec.elements_for self.old.lg_k (length (coupons_in table.now.buckets)) ≤ length body.old → ⊥ }
+        ensures takes { result ≡ true → (room : ℕ) → spec.elements_for self.old.lg_k (length (coupons_in table.now.buckets)) ≤ room → HasRoom self.new 0 room }
         ensures unchanged { result ≡ false → self.new ≡ self.old }
     {
         if body.len() < elements_for(self.lg_k, table.len()) {
@@ -72,6 +75,7 @@ impl Header {
         requires room { HasRoom self.old (length (coupons_in table.now.buckets)) (length body.old) }
         ensures within { IsWithin self.new (length body.old) }
         ensures added { sketch_in self.new body.new ≡ add_in_turn (sketch_in self.old body.old) (coupons_in table.now.buckets) }
+        ensures room { (n room : ℕ) → HasRoom self.old (n + length (coupons_in table.now.buckets)) room → HasRoom self.new n room }
         ensures widths { self.new.widths ≡ self.old.widths }
     {
         for coupon in table.iter() {

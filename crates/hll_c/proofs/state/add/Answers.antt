@@ -4,8 +4,8 @@ use Rattle.std.proofs.Common.{ap, ◌∙◌, ◌≡◌, length, map, refl, sym, 
 use Rattle.hll_coupons.specs.Hashed.{coupon_of_bytes}
 use Rattle.hll_sketch.specs.Laws.{add_in_turn}
 use Rattle.hll_state.specs.Header.{IsWithin}
-use Rattle.hll_state.specs.Memory.{is_open, HasRoomIn, AreEnough, KeepsWidths}
-use Rattle.hll_state.proofs.States.{open_written, ready_within, ready_room, written_size, written_within, closed, closed_widths, enough_fits, keeps_own}
+use Rattle.hll_state.specs.Memory.{is_open, HasRoomIn, AreEnough, GrowsBy}
+use Rattle.hll_state.proofs.States.{open_written, ready_within, ready_room, written_size, written_within, closed, closed_grows, enough_fits, grows_own, grows_more}
 use Rattle.hll_c.specs.Batches.{AreEnds, strings}
 use Rattle.hll_c.specs.States.{TakesValues, AddsToState, added, no_room, not_added}
 use Rattle.hll_c.proofs.Batches.{not_so}
@@ -61,21 +61,21 @@ returns-in-Room-clause-added c =
     c.push_values.new.header c.push_values.new.body c.close.new.elements c.push_values.ensures.added c.close.ensures.header c.close.ensures.rest)
     refl
 
-pub returns-then-not-are_ends-clause-widths : goal.returns-then-not-are_ends-clause-widths
-returns-then-not-are_ends-clause-widths c = keeps_own c.args.state.now
+pub returns-then-not-are_ends-clause-grows : goal.returns-then-not-are_ends-clause-grows
+returns-then-not-are_ends-clause-grows c = grows_own (length c.args.ends.now) c.args.state.now
 
-pub returns-in-NoState-clause-widths : goal.returns-in-NoState-clause-widths
-returns-in-NoState-clause-widths c = subst (KeepsWidths c.args.state.now) (sym c.in-NoState.ensures.same) (keeps_own c.args.state.now)
+pub returns-in-NoState-clause-grows : goal.returns-in-NoState-clause-grows
+returns-in-NoState-clause-grows c = subst (GrowsBy (length c.args.ends.now) c.args.state.now) (sym c.in-NoState.ensures.same) (grows_own (length c.args.ends.now) c.args.state.now)
 
-pub returns-in-NoRoom-clause-widths : goal.returns-in-NoRoom-clause-widths
-returns-in-NoRoom-clause-widths c = c.in-NoRoom.ensures.widths
+pub returns-in-NoRoom-clause-grows : goal.returns-in-NoRoom-clause-grows
+returns-in-NoRoom-clause-grows c = grows_more (length c.args.ends.now) c.args.state.now c.begin.new.elements c.in-NoRoom.ensures.grows
 
-pub returns-in-Room-clause-widths : goal.returns-in-Room-clause-widths
-returns-in-Room-clause-widths c =
-    closed_widths (length c.args.ends.now) c.args.state.now c.begin.new.elements c.in-Room.header c.in-Room.ensures c.begin.auto.elements c.push_values.new.header c.close.new.elements c.close.ensures.header c.push_values.ensures.widths
+pub returns-in-Room-clause-grows : goal.returns-in-Room-clause-grows
+returns-in-Room-clause-grows c =
+    closed_grows (length c.args.ends.now) c.args.state.now c.begin.new.elements c.in-Room.header c.in-Room.ensures c.begin.auto.elements c.push_values.new.header c.close.new.elements c.close.ensures.header c.push_values.ensures.grows.widths c.push_values.ensures.grows.takes
 
-pub returns-then-is_open-clause-widths : goal.returns-then-is_open-clause-widths
-returns-then-is_open-clause-widths c = keeps_own c.args.state.now
+pub returns-then-is_open-clause-grows : goal.returns-then-is_open-clause-grows
+returns-then-is_open-clause-grows c = grows_own (length c.args.ends.now) c.args.state.now
 
 pub returns-in-NoState-clause-lg_k_open : goal.returns-in-NoState-clause-lg_k_open
 returns-in-NoState-clause-lg_k_open c = ap is_open c.in-NoState.ensures.same

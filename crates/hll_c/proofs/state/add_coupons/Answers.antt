@@ -3,8 +3,8 @@ use Rattle.std.proofs.lemmas.Bool.{true≢false}
 use Rattle.std.proofs.Common.{ap, ◌∙◌, length, refl, sym, subst, arith}
 use Rattle.hll_sketch.specs.Laws.{add_in_turn}
 use Rattle.hll_state.specs.Header.{IsWithin}
-use Rattle.hll_state.specs.Memory.{is_open, KeepsWidths}
-use Rattle.hll_state.proofs.States.{open_written, ready_within, ready_room, written_size, written_within, closed, closed_widths, enough_fits, keeps_own}
+use Rattle.hll_state.specs.Memory.{is_open, GrowsBy}
+use Rattle.hll_state.proofs.States.{open_written, ready_within, ready_room, written_size, written_within, closed, closed_grows, enough_fits, grows_own, grows_more}
 use Rattle.hll_c.specs.ByteRegisters.{HaveValues}
 use Rattle.hll_c.specs.States.{TakesValues, AddsToState, added, no_room, not_added}
 use Rattle.hll_c.proofs.Batches.{not_so}
@@ -57,21 +57,21 @@ returns-in-Room-clause-added c =
     c.push_coupons.new.header c.push_coupons.new.body c.close.new.elements c.push_coupons.ensures.added c.close.ensures.header c.close.ensures.rest)
     refl
 
-pub returns-then-not-have_values-clause-widths : goal.returns-then-not-have_values-clause-widths
-returns-then-not-have_values-clause-widths c = keeps_own c.args.state.now
+pub returns-then-not-have_values-clause-grows : goal.returns-then-not-have_values-clause-grows
+returns-then-not-have_values-clause-grows c = grows_own (length c.args.coupons.now) c.args.state.now
 
-pub returns-in-NoState-clause-widths : goal.returns-in-NoState-clause-widths
-returns-in-NoState-clause-widths c = subst (KeepsWidths c.args.state.now) (sym c.in-NoState.ensures.same) (keeps_own c.args.state.now)
+pub returns-in-NoState-clause-grows : goal.returns-in-NoState-clause-grows
+returns-in-NoState-clause-grows c = subst (GrowsBy (length c.args.coupons.now) c.args.state.now) (sym c.in-NoState.ensures.same) (grows_own (length c.args.coupons.now) c.args.state.now)
 
-pub returns-in-NoRoom-clause-widths : goal.returns-in-NoRoom-clause-widths
-returns-in-NoRoom-clause-widths c = c.in-NoRoom.ensures.widths
+pub returns-in-NoRoom-clause-grows : goal.returns-in-NoRoom-clause-grows
+returns-in-NoRoom-clause-grows c = grows_more (length c.args.coupons.now) c.args.state.now c.begin.new.elements c.in-NoRoom.ensures.grows
 
-pub returns-in-Room-clause-widths : goal.returns-in-Room-clause-widths
-returns-in-Room-clause-widths c =
-    closed_widths (length c.args.coupons.now) c.args.state.now c.begin.new.elements c.in-Room.header c.in-Room.ensures c.begin.auto.elements c.push_coupons.new.header c.close.new.elements c.close.ensures.header c.push_coupons.ensures.widths
+pub returns-in-Room-clause-grows : goal.returns-in-Room-clause-grows
+returns-in-Room-clause-grows c =
+    closed_grows (length c.args.coupons.now) c.args.state.now c.begin.new.elements c.in-Room.header c.in-Room.ensures c.begin.auto.elements c.push_coupons.new.header c.close.new.elements c.close.ensures.header c.push_coupons.ensures.grows.widths c.push_coupons.ensures.grows.takes
 
-pub returns-then-is_open-clause-widths : goal.returns-then-is_open-clause-widths
-returns-then-is_open-clause-widths c = keeps_own c.args.state.now
+pub returns-then-is_open-clause-grows : goal.returns-then-is_open-clause-grows
+returns-then-is_open-clause-grows c = grows_own (length c.args.coupons.now) c.args.state.now
 
 pub returns-in-NoState-clause-lg_k_open : goal.returns-in-NoState-clause-lg_k_open
 returns-in-NoState-clause-lg_k_open c = ap is_open c.in-NoState.ensures.same

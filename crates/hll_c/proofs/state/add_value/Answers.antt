@@ -3,7 +3,7 @@ use Rattle.std.proofs.Common.{◌≡◌, [], ◌∷◌, refl, sym, ap, subst, �
 use Rattle.hll_coupons.specs.Hashed.{coupon_of_bytes}
 use Rattle.hll_sketch.specs.Laws.{add_in_turn}
 use Rattle.hll_state.specs.Memory.{IsStateOf}
-use Rattle.hll_state.proofs.States.{keeps_own}
+use Rattle.hll_state.proofs.States.{grows_own}
 use Rattle.hll_c.specs.States.{TakesValues, AddsToState, added}
 use Rattle.hll_c.proofs.state.add_value.Goals as goal
 
@@ -15,8 +15,8 @@ returns-then-has_raised-clause-added c =
     (record { sketch = of.sketch; was = of.was; is = subst (IsStateOf c.args.state.now) (sym (ap (λ n. add_in_turn of.sketch (n ∷ [])) (sym raw) ∙ of.is)) of.was })
     refl
 
-pub returns-then-has_raised-clause-widths : goal.returns-then-has_raised-clause-widths
-returns-then-has_raised-clause-widths c = keeps_own c.args.state.now
+pub returns-then-has_raised-clause-grows : goal.returns-then-has_raised-clause-grows
+returns-then-has_raised-clause-grows c = grows_own 1 c.args.state.now
 
 pub returns-clause-added : goal.returns-clause-added
 returns-clause-added c =

@@ -2,8 +2,8 @@
 use Rattle.std.proofs.Common.{ℕ, List, [], ◌∷◌, refl, sym, subst, ◌∙◌, arith}
 use Rattle.hll_sketch.specs.Laws.{add_in_turn}
 use Rattle.hll_state.specs.Header.{IsWithin}
-use Rattle.hll_state.specs.Memory.{KeepsWidths}
-use Rattle.hll_state.proofs.States.{open_written, ready_within, ready_room, written_size, written_within, closed, closed_widths, enough_fits}
+use Rattle.hll_state.specs.Memory.{GrowsBy}
+use Rattle.hll_state.proofs.States.{open_written, ready_within, ready_room, written_size, written_within, closed, closed_grows, grows_more, enough_fits}
 use Rattle.hll_c.specs.States.{AddsToState, added, no_room}
 use Rattle.hll_c.proofs.state.add_with.Goals as goal
 
@@ -43,14 +43,14 @@ returns-in-Ok-clause-added c =
     c.push_higher.new.self c.push_higher.new.body c.close.new.elements c.push_higher.ensures.added c.close.ensures.header c.close.ensures.rest)
     refl)
 
-pub returns-in-Err-clause-widths : goal.returns-in-Err-clause-widths
-returns-in-Err-clause-widths c = subst (λ (e : List (List ℕ)). KeepsWidths e c.begin_with.new.elements) (c.add_in_place.ensures.none c.if-add_in_place.false) c.in-Err.ensures.err.widths
+pub returns-in-Err-clause-grows : goal.returns-in-Err-clause-grows
+returns-in-Err-clause-grows c = subst (λ (e : List (List ℕ)). GrowsBy 1 e c.begin_with.new.elements) (c.add_in_place.ensures.none c.if-add_in_place.false) (grows_more 1 c.add_in_place.new.elements c.begin_with.new.elements c.in-Err.ensures.err.grows)
 
-pub returns-in-Ok-clause-widths : goal.returns-in-Ok-clause-widths
-returns-in-Ok-clause-widths c =
-    subst (λ (e : List (List ℕ)). KeepsWidths e c.close.new.elements) (c.add_in_place.ensures.none c.if-add_in_place.false)
-    (closed_widths 1 c.add_in_place.new.elements c.begin_with.new.elements c.in-Ok.header c.in-Ok.ensures.ok c.begin_with.auto.elements c.push_higher.new.self c.close.new.elements c.close.ensures.header
-    c.push_higher.ensures.widths)
+pub returns-in-Ok-clause-grows : goal.returns-in-Ok-clause-grows
+returns-in-Ok-clause-grows c =
+    subst (λ (e : List (List ℕ)). GrowsBy 1 e c.close.new.elements) (c.add_in_place.ensures.none c.if-add_in_place.false)
+    (closed_grows 1 c.add_in_place.new.elements c.begin_with.new.elements c.in-Ok.header c.in-Ok.ensures.ok c.begin_with.auto.elements c.push_higher.new.self c.close.new.elements c.close.ensures.header
+    c.push_higher.ensures.widths (c.push_higher.ensures.room 0))
 
 pub returns-in-Err-clause-lg_k_open : goal.returns-in-Err-clause-lg_k_open
 returns-in-Err-clause-lg_k_open c = c.in-Err.ensures.err.lg_k_open ∙ c.add_in_place.ensures.lg_k_open

@@ -1,12 +1,12 @@
 -- SPDX-License-Identifier: Apache-2.0
-use Rattle.std.proofs.Common.{◌-◌, length, refl, subst, arith}
+use Rattle.std.proofs.Common.{◌+◌, ◌-◌, length, refl, subst, arith}
 use Rattle.hll_state.specs.Header.{IsWithin}
-use Rattle.hll_c.proofs.States.{pushed, all_pushed}
+use Rattle.hll_c.proofs.States.{pushed, all_pushed, none_left}
 use Rattle.hll_state.proofs.Rooms.{room_fewer}
 use Rattle.hll_c.proofs.state.push_coupons.Goals as goal
 
 pub loop-raw-init : goal.loop-raw-init
-loop-raw-init c = record { within = c.requires.within; room = room_fewer c.args.header.now (length c.args.coupons.now - 0) (length c.args.coupons.now) (length c.args.body.now) (omega arith) c.requires.room; widths = refl; same = refl }
+loop-raw-init c = record { within = c.requires.within; room = room_fewer c.args.header.now (length c.args.coupons.now - 0) (length c.args.coupons.now) (length c.args.body.now) (omega arith) c.requires.room; widths = refl; takes = λ n len. room_fewer c.args.header.now n (n + 0) len (omega arith); same = refl }
 
 pub push-requires-clause-within : goal.push-requires-clause-within
 push-requires-clause-within c = c.loop-raw.invariant.within
@@ -23,5 +23,5 @@ pub returns : goal.returns
 returns c = record {
   within = subst (IsWithin c.loop-raw.header) c.loop-raw.auto.body c.loop-raw.invariant.within;
   added = all_pushed c.args.header.now c.args.body.now c.loop-raw.header c.loop-raw.body c.args.coupons.now c.loop-raw.raw-index c.loop-raw-test.false c.loop-raw.invariant;
-  widths = c.loop-raw.invariant.widths;
+  grows = record { widths = c.loop-raw.invariant.widths; takes = λ len. none_left c.args.header.now c.loop-raw.header (length c.args.coupons.now) c.loop-raw.raw-index len (omega (arith, c.loop-raw.auto.raw-index-end)) c.loop-raw.invariant.takes };
 }

@@ -1,13 +1,13 @@
 -- SPDX-License-Identifier: Apache-2.0
-use Rattle.std.proofs.Common.{◌-◌, length, refl, subst, sym, ◌∙◌, arith}
+use Rattle.std.proofs.Common.{◌+◌, ◌-◌, length, refl, subst, sym, ◌∙◌, arith}
 use Rattle.hll_c.proofs.Batches.{ends_here}
 use Rattle.hll_state.specs.Header.{IsWithin}
-use Rattle.hll_c.proofs.States.{string_pushed, all_strings_pushed}
+use Rattle.hll_c.proofs.States.{string_pushed, all_strings_pushed, none_left}
 use Rattle.hll_state.proofs.Rooms.{room_fewer}
 use Rattle.hll_c.proofs.state.push_values.Goals as goal
 
 pub loop-end-init : goal.loop-end-init
-loop-end-init c = record { are = c.requires.ends; within = c.requires.within; room = room_fewer c.args.header.now (length c.args.ends.now - 0) (length c.args.ends.now) (length c.args.body.now) (omega arith) c.requires.room; widths = refl; same = refl }
+loop-end-init c = record { are = c.requires.ends; within = c.requires.within; room = room_fewer c.args.header.now (length c.args.ends.now - 0) (length c.args.ends.now) (length c.args.body.now) (omega arith) c.requires.room; widths = refl; takes = λ n len. room_fewer c.args.header.now n (n + 0) len (omega arith); same = refl }
 
 pub slice_bounds-from_bytes-count : goal.slice_bounds-from_bytes-count
 slice_bounds-from_bytes-count c = (ends_here (length c.args.values.now) c.args.ends.now c.loop-end.end-index 0 c.loop-end-test.true c.loop-end.start c.loop-end.invariant.are).0
@@ -30,5 +30,5 @@ pub returns : goal.returns
 returns c = record {
   within = subst (IsWithin c.loop-end.header) c.loop-end.auto.body c.loop-end.invariant.within;
   added = all_strings_pushed c.args.header.now c.args.body.now c.loop-end.header c.loop-end.body c.args.values.now c.args.ends.now c.loop-end.start c.loop-end.end-index c.loop-end-test.false c.loop-end.invariant;
-  widths = c.loop-end.invariant.widths;
+  grows = record { widths = c.loop-end.invariant.widths; takes = λ len. none_left c.args.header.now c.loop-end.header (length c.args.ends.now) c.loop-end.end-index len (omega (arith, c.loop-end.auto.end-index-end)) c.loop-end.invariant.takes };
 }

@@ -6,7 +6,7 @@ use Rattle.hll_state.specs.Counter.{sketch_in}
 use Rattle.hll_state.specs.Header.{IsWithin, HasRoom}
 use Rattle.hll_state.specs.Memory.{HasHeader}
 use Rattle.hll_state.specs.declared.header.Header.{Header}
-use Rattle.hll_state.proofs.States.{opened, rest_borrowed, rest_written, means, kept, same_widths, keeps, open_written}
+use Rattle.hll_state.proofs.States.{one_header, opened, rest_borrowed, rest_written, means, kept, same_widths, grows, open_written}
 use Rattle.hll_state.proofs.memory.begin_with.Goals as goal
 
 pub returns-then-make_room-clause-ok : goal.returns-then-make_room-clause-ok
@@ -27,6 +27,7 @@ returns-then-make_room-clause-ok c =
         is = sym (opened e b h g has c.make_room.ensures.same) ∙ ap (sketch_in g) (sym (rest_written e b has.there));
       };
       widths = λ x had. same_widths e h has x had ∙ sym c.make_room.ensures.widths;
+      keeps = λ x had m len enough. c.make_room.ensures.keeps m len (subst (λ (y : Header). HasRoom y m len) (one_header e x h had has) enough);
       lg_k_open = open_written e b has.there;
     }
 
@@ -42,7 +43,7 @@ returns-clause-err c =
     let rest : drop 10 n ≡ b = c.close.ensures.rest ∙ rest_written e b has.there in
     record {
       kept = kept e n h g has c.close.ensures.header (ap (sketch_in g) rest ∙ opened e b h g has c.make_room.ensures.same);
-      widths = keeps e n h g has c.close.ensures.header c.make_room.ensures.widths;
+      grows = grows 0 e n h g has c.close.ensures.header (record { widths = c.make_room.ensures.widths; takes = c.make_room.ensures.keeps 0 });
       lg_k_open = c.close.ensures.lg_k_open ∙ open_written e b has.there;
       lacks = λ can. c.make_room.ensures.none c.if-make_room.false (subst (HasRoom h c.args.count) (sym size) (can h has));
       enough = record {

@@ -5,7 +5,7 @@ use borrow.Rule.Slice.PartMut.{mid_of}
 use Rattle.hll_state.specs.Counter.{sketch_in, IsResolved}
 use Rattle.hll_state.specs.Memory.{HasHeader}
 use Rattle.hll_state.specs.declared.header.Header.{Header}
-use Rattle.hll_state.proofs.States.{one_header, opened, rest_borrowed, rest_written, means, kept, same_widths, keeps, read_own, open_written}
+use Rattle.hll_state.proofs.States.{one_header, opened, rest_borrowed, rest_written, means, kept, same_widths, grows, read_own, open_written}
 use Rattle.hll_state.proofs.memory.resolve.Goals as goal
 
 -- what is resolved under one header of elements is so under another
@@ -60,7 +60,7 @@ returns-clause-read c =
     let rest = c.close.ensures.rest ∙ rest_written e c.resolve.new.body has.there in
     record {
       kept = λ s. kept e c.close.new.elements h g has c.close.ensures.header (ap (sketch_in g) rest ∙ opened e c.resolve.new.body h g has c.resolve.ensures.same);
-      widths = keeps e c.close.new.elements h g has c.close.ensures.header c.resolve.ensures.widths;
+      grows = grows 0 e c.close.new.elements h g has c.close.ensures.header (record { widths = c.resolve.ensures.widths; takes = c.resolve.ensures.room 0 });
       resolved = λ x had is. absurd (true≢false (sym (c.is_resolved.ensures.1 (of_own e x h had has is)) ∙ c.if-is_resolved.false));
       unchanged = λ none. absurd (none (record { header = h; has = has }));
       lg_k_open = c.close.ensures.lg_k_open ∙ open_written e c.resolve.new.body has.there;

@@ -1,5 +1,5 @@
 -- SPDX-License-Identifier: Apache-2.0
-use Rattle.std.proofs.Common.{◌≡◌, true, not, length, None, sym, ap, ◌∙◌, arith}
+use Rattle.std.proofs.Common.{◌≡◌, ◌+◌, ◌≤◌, true, not, length, None, sym, ap, ◌∙◌, arith}
 use Rattle.std.specs.FinSet.{len}
 use Rattle.std.specs.Option.{is_some}
 use Rattle.std.proofs.lemmas.Bool.{true≢false}
@@ -9,7 +9,8 @@ use Rattle.hll_registers.specs.State.{cleared_state}
 use Rattle.hll_sketch.specs.Stage.{stage}
 use Rattle.hll_sketch.specs.Value.{registers}
 use Rattle.hll_state.specs.CouponRun.{members}
-use Rattle.hll_state.proofs.Rooms.{promotes_within, some_below, none_of}
+use Rattle.hll_state.specs.Header.{elements_for}
+use Rattle.hll_state.proofs.Rooms.{elements_mono, promotes_within, some_below, none_of}
 use Rattle.hll_state.proofs.Settled.{used_count}
 use Rattle.hll_state.proofs.Tables.{needed_in_registers}
 use Rattle.hll_state.proofs.header.CouponTable.resolved.Goals as goal
@@ -28,10 +29,11 @@ returns-then-is_none-clause-within c =
     omega (arith, promotes_within c.args.lg_k c.args.self.lg_size c.settle.new.self.used c.args.self.run.used (length c.args.body.now) within.size c.settle.ensures.fewer within.used within.there none)
 
 pub returns-then-is_none-clause-room : goal.returns-then-is_none-clause-room
-returns-then-is_none-clause-room c = λ n room.
+returns-then-is_none-clause-room c = λ n room enough.
     let within = c.requires.within in
+    let there : elements_for c.args.lg_k c.args.self.run.used ≤ room = omega (arith, enough, elements_mono c.args.lg_k c.args.self.run.used (c.args.self.run.used + n) (omega arith)) in
     let none : stage c.args.lg_k c.args.self.lg_size c.settle.new.self.used ≡ None = sym c.stage.ensures ∙ none_of c.stage.result c.if-is_none.ensures in
-    omega (arith, promotes_within c.args.lg_k c.args.self.lg_size c.settle.new.self.used c.args.self.run.used (length c.args.body.now) within.size c.settle.ensures.fewer within.used within.there none)
+    omega (arith, promotes_within c.args.lg_k c.args.self.lg_size c.settle.new.self.used c.args.self.run.used room within.size c.settle.ensures.fewer within.used there none)
 
 pub returns-then-is_none-clause-same : goal.returns-then-is_none-clause-same
 returns-then-is_none-clause-same c =

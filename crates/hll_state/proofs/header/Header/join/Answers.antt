@@ -23,6 +23,7 @@ returns-then-is_empty-clause-joined g c =
       accepted = λ some. not_refused c.args.bounded x y (empty_same c.args.bounded x.lg_k y none);
       is = λ some. joins.is c.requires.within some ∙ ap (λ k. raised c.args.bounded k x) c.lg_k.ensures.lg_k ∙ sym (joined-empty c.args.bounded x y none);
       empty = λ some. unused_is_empty h body c.requires.within some;
+      takes = λ len enough to_merge. joins.takes len enough;
       widths = joins.widths_are ∙ c.widths_after-widths.ensures.is ∙ ap (widths_after h.widths c.args.widths (is_unused h.held)) c.is_empty-is_empty.ensures;
     }
 

@@ -1,5 +1,5 @@
 -- SPDX-License-Identifier: Apache-2.0
-use Rattle.std.proofs.Common.{◌≡◌, ℕ, ◌*◌, ◌-◌, ◌^◌, true, List, ◌++◌, length, take, drop, sym, ap, ◌∙◌, arith}
+use Rattle.std.proofs.Common.{◌≡◌, ℕ, ◌*◌, ◌-◌, ◌^◌, min, true, List, ◌++◌, length, take, drop, sym, ap, ◌∙◌, arith}
 use Rattle.std.proofs.Math.Seq.{take-append_seam}
 use Rattle.std.proofs.lemmas.List.{length-take-le}
 use Rattle.hll_registers.specs.Store.{Stored}
@@ -32,3 +32,9 @@ returns-clause-merged c = λ some _.
     let none : is_empty s ≡ true = sym (c.is_empty.ensures.empty c.args.body.now c.requires some) ∙ c.if-not-is_empty.false in
     ap (λ st. record { lg_k = k; width = s.width; content = registers (values (take (2 ^ (k - 2)) (new ++ drop n body))) st }) c.estimate_state.ensures
     ∙ registers_copied s x _ none (c.if-self-lg_k.false ∙ c.lg_k.ensures.lg_k) c.lg_k.ensures.legal copy
+
+pub returns-clause-takes : goal.returns-clause-takes
+returns-clause-takes c = λ done len enough.
+    let k : ℕ = c.args.self.now.lg_k in
+    let same : k ≡ min k c.args.src.now.lg_k = omega (arith, c.if-self-lg_k.false, c.lg_k.ensures.lg_k) in
+    omega (arith, enough, ap (λ k. 2 ^ (k - 2)) same)

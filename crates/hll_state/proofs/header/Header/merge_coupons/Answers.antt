@@ -1,5 +1,5 @@
 -- SPDX-License-Identifier: Apache-2.0
-use Rattle.std.proofs.Common.{◌≡◌, ℕ, nat_eq, false, ◌&&◌, List, length, refl, sym, ap, ◌∙◌, arith}
+use Rattle.std.proofs.Common.{◌≡◌, ℕ, ◌+◌, nat_eq, false, ◌&&◌, List, length, refl, sym, ap, ◌∙◌, arith}
 use Rattle.std.specs.FinSet.{len}
 use Rattle.std.proofs.lemmas.Bool.{ne_eqb}
 use Rattle.hll_coupons.specs.Pair.{set_of}
@@ -11,6 +11,7 @@ use Rattle.hll_state.specs.Counter.{sketch_in}
 use Rattle.hll_state.specs.CouponRun.{raws}
 use Rattle.hll_state.specs.Merged.{table_of}
 use Rattle.hll_state.proofs.Raws.{length-raws}
+use Rattle.hll_state.proofs.Rooms.{room_fewer}
 use Rattle.hll_state.proofs.header.Header.merge_coupons.Goals as goal
 use Rattle.hll_state.proofs.header.Header.merge_coupons.Goals.{else-self-lg_k-via-then-self-lg_k+else-is_empty, else-self-lg_k-via-else-self-lg_k}
 
@@ -30,3 +31,11 @@ returns-clause-merged c = λ not_zero _.
 
 pub returns-then-is_empty-clause-none : goal.returns-then-is_empty-clause-none
 returns-then-is_empty-clause-none c = λ no has. c.take_coupons.ensures.none no (c.is_empty.ensures.room c.if-is_empty.true (length c.args.coupons.now) (length c.args.body.now) has)
+
+pub returns-then-is_empty-clause-takes : goal.returns-then-is_empty-clause-takes
+returns-then-is_empty-clause-takes c = λ done len has. c.take_coupons.ensures.takes done len (c.is_empty.ensures.room c.if-is_empty.true (length c.args.coupons.now) len has)
+
+pub returns-clause-takes : goal.returns-clause-takes
+returns-clause-takes c = λ done len has.
+    let n : ℕ = length c.args.coupons.now in
+    c.push_all.ensures.room 0 len (room_fewer c.make_room.new.self (0 + n) n len (omega arith) (c.make_room.ensures.keeps n len has))

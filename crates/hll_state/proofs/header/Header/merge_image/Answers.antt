@@ -71,3 +71,29 @@ pub returns-in-Bytes-clause-none : goal.returns-in-Bytes-clause-none
 returns-in-Bytes-clause-none g c = λ no has.
     let is = ap sketch_of_borrowed (sym c.in-Bytes.is) in
     c.merge_bytes.ensures.none no (room_as c.args.self.now _ (sketch_of_borrowed c.args.image.now) (length c.args.body.now) is c.requires.some has)
+
+pub returns-in-Coupons-clause-takes : goal.returns-in-Coupons-clause-takes
+returns-in-Coupons-clause-takes g c = λ done len has.
+    let is = ap sketch_of_borrowed (sym c.in-Coupons.is) in
+    c.merge_coupons.ensures.takes done len (subst (λ n. HasRoom c.args.self.now n len) c.in-Coupons.coupons.once
+    (room_as c.args.self.now _ (sketch_of_borrowed c.args.image.now) len is c.requires.some has))
+
+pub returns-in-Table-clause-takes : goal.returns-in-Table-clause-takes
+returns-in-Table-clause-takes g c = λ done len has.
+    let is = ap sketch_of_borrowed (sym c.in-Table.is) in
+    c.merge_sketch.ensures.takes done len (room_as c.args.self.now _ (sketch_of_borrowed c.args.image.now) len is c.requires.some has)
+
+pub returns-in-Nibbles-clause-takes : goal.returns-in-Nibbles-clause-takes
+returns-in-Nibbles-clause-takes g c = λ done len has.
+    let is = ap sketch_of_borrowed (sym c.in-Nibbles.is) in
+    c.merge_registers.ensures.takes done len (room_as c.args.self.now _ (sketch_of_borrowed c.args.image.now) len is c.requires.some has)
+
+pub returns-in-Groups-clause-takes : goal.returns-in-Groups-clause-takes
+returns-in-Groups-clause-takes g c = λ done len has.
+    let is = ap sketch_of_borrowed (sym c.in-Groups.is) in
+    c.merge_registers-in-Groups.ensures.takes done len (room_as c.args.self.now _ (sketch_of_borrowed c.args.image.now) len is c.requires.some has)
+
+pub returns-in-Bytes-clause-takes : goal.returns-in-Bytes-clause-takes
+returns-in-Bytes-clause-takes g c = λ done len has.
+    let is = ap sketch_of_borrowed (sym c.in-Bytes.is) in
+    c.merge_bytes.ensures.takes done len (room_as c.args.self.now _ (sketch_of_borrowed c.args.image.now) len is c.requires.some has)

@@ -31,3 +31,9 @@ returns-clause-merged g c = λ some _.
     let state : c.state_after_merge.result ≡ state_after_merge c.args.self.now.lg_k s x.lg_k x.state =
     c.state_after_merge.ensures ∙ ap (λ b. cond (b && leb x.lg_k c.args.self.now.lg_k) x.state cleared_state) (c.is_empty-is_empty.ensures.empty c.args.body.now c.requires some) in
     registers_merged c.args.self.now.lg_k s x e _ c.state_after_merge.result least joined state
+
+pub returns-clause-takes : goal.returns-clause-takes
+returns-clause-takes g c = λ done len enough.
+    let x : Stored = g.R.Registers.stored c.args.src.now in
+    let least : c.min-lg_k.result ≡ min c.args.self.now.lg_k x.lg_k = omega (arith, c.min-lg_k.ensures, c.lg_k.ensures.lg_k) in
+    omega (arith, enough, ap (λ k. 2 ^ (k - 2)) least)

@@ -9,7 +9,9 @@ use Rattle.hll_sketch.specs.Value.{Sketch}
 use Rattle.hll_state.specs.Counter.{sketch_in, content_of}
 use Rattle.hll_state.specs.CouponRun.{raws}
 use Rattle.hll_registers.specs.State.{cleared_state}
-use Rattle.hll_state.specs.Header.{of_registers, IsHeldWithin, IsWithin, HasRoom}
+use Rattle.hll_state.specs.Header.{of_registers, IsHeldWithin, IsWithin, HasRoom, HasRoomFor}
+use Rattle.hll_state.specs.declared.header.Held.{Held}
+use Rattle.hll_state.proofs.Rooms.{room_fewer}
 use Rattle.hll_state.specs.Registers.{values}
 use Rattle.hll_state.proofs.Raised.{all_raised, all_added}
 use Rattle.hll_base.specs.Join.{join}
@@ -34,7 +36,8 @@ loop-coupon-preserved c =
       added = ap (λ x. add_in_turn x rest) (c.push.ensures.added ∙ ap (λ n. add g (set_of (n ∷ []))) is) ∙ ap (add_in_turn g) (sym left) ∙ c.loop-coupon.invariant.added;
       widths = c.push.ensures.widths ∙ c.loop-coupon.invariant.widths;
       room = subst (HasRoom c.push.new.self (length coupons - (i + 1))) long
-          (c.push.ensures.room (length coupons - (i + 1)) (subst (λ n. HasRoom c.loop-coupon.self n (length c.loop-coupon.body)) next c.loop-coupon.invariant.room));
+          (c.push.ensures.room (length coupons - (i + 1)) (length c.loop-coupon.body) (subst (λ n. HasRoom c.loop-coupon.self n (length c.loop-coupon.body)) next c.loop-coupon.invariant.room));
+      takes = λ n room enough. c.push.ensures.room n room (c.loop-coupon.invariant.takes (n + 1) room (subst (λ m. HasRoom c.args.self.now m room) (let e : n + (i + 1) ≡ n + 1 + i = omega arith in e) enough));
     }
 
 pub returns-then-has_cleared_registers-clause-added : goal.returns-then-has_cleared_registers-clause-added
@@ -60,3 +63,9 @@ returns-clause-added c =
     ap (λ content. let z : Sketch = record { lg_k = h.lg_k; width = Hll8; content = content } in z)
     (c.with_all.ensures.added ∙ ap (λ held. content_with h.lg_k (content_of h.lg_k held body) (set_of order)) (sym c.in-Coupons.is))
     ∙ sym (all_added (sketch_in h body) order (omega (arith, c.requires.some, length-raws c.args.coupons.now)))
+
+pub returns-then-has_cleared_registers-clause-room : goal.returns-then-has_cleared_registers-clause-room
+returns-then-has_cleared_registers-clause-room c n room enough = room_fewer c.args.self.now n (n + length c.args.coupons.now) room (omega arith) enough
+
+pub returns-clause-room : goal.returns-clause-room
+returns-clause-room c n room enough = c.with_all.ensures.room n room (subst (λ (held : Held). HasRoomFor c.args.self.now.lg_k held (n + length c.args.coupons.now) room) c.in-Coupons.is enough)

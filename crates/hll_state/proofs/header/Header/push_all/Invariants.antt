@@ -1,5 +1,5 @@
 -- SPDX-License-Identifier: Apache-2.0
-use Rattle.std.proofs.Common.{◌≡◌, ◌-◌, length, drop}
+use Rattle.std.proofs.Common.{◌≡◌, ℕ, ◌+◌, ◌-◌, length, drop}
 use Rattle.hll_sketch.specs.Laws.{add_in_turn}
 use Rattle.hll_state.specs.Counter.{sketch_in}
 use Rattle.hll_state.specs.CouponRun.{raws}
@@ -14,4 +14,5 @@ invariant-loop-coupon l = record {
   added : add_in_turn (sketch_in l.self l.body) (drop l.coupon-index (raws l.coupons)) ≡ add_in_turn (sketch_in l.fn.self l.fn.body) (raws l.coupons);
   widths : l.self.widths ≡ l.fn.self.widths;
   room : HasRoom l.self (length l.coupons - l.coupon-index) (length l.body);
+  takes : (n room : ℕ) → HasRoom l.fn.self (n + l.coupon-index) room → HasRoom l.self n room;
 }

@@ -12,5 +12,6 @@ invariant-loop-coupon g l = record {
   within : IsWithin l.self (length l.body);
   added : sketch_in l.self l.body ≡ add_in_turn (sketch_in l.fn.self l.fn.body) l.yielded;
   widths : l.self.widths ≡ l.fn.self.widths;
+  takes : (n room : ℕ) → HasRoom l.fn.self (n + length l.yielded) room → HasRoom l.self n room;
   room : (n : ℕ) → length l.yielded + n ≡ length (coupons_in l.table.buckets) → HasRoom l.self n (length l.body);
 }

@@ -1,5 +1,5 @@
 -- SPDX-License-Identifier: Apache-2.0
-use Rattle.std.proofs.Common.{◌≤◌, length, arith}
+use Rattle.std.proofs.Common.{◌≡◌, ◌+◌, ◌≤◌, length, subst, arith}
 use Rattle.hll_state.specs.Header.{elements_for}
 use Rattle.hll_state.proofs.Emptiness.{table_within}
 use Rattle.hll_state.proofs.Rooms.{used_within}
@@ -20,3 +20,6 @@ returns-clause-within c =
     let room = length c.args.body.now in
     let enough : elements_for k n ≤ room = omega (arith, c.if-body-elements_for.false, c.elements_for.ensures) in
     record { lg_k = c.requires.within.lg_k; widths = c.requires.within.widths; held = table_within k n c.args.lg_size room c.requires.table enough }
+
+pub returns-clause-takes : goal.returns-clause-takes
+returns-clause-takes c done len enough = subst (λ n. elements_for c.args.self.now.lg_k n ≤ len) (let e : length c.args.coupons.now ≡ length c.args.coupons.now + 0 = omega arith in e) enough

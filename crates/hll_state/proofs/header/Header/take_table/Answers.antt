@@ -1,9 +1,9 @@
 -- SPDX-License-Identifier: Apache-2.0
-use Rattle.std.proofs.Common.{◌≤◌, false, length, sym, ap, subst, arith}
+use Rattle.std.proofs.Common.{◌+◌, ◌≤◌, false, length, sym, ap, subst, arith}
 use Rattle.hll_coupons.specs.Table.{coupons_in}
 use Rattle.hll_state.specs.Header.{elements_for, AreWithin}
 use Rattle.hll_state.proofs.Emptiness.{run_within, table_within}
-use Rattle.hll_state.proofs.Rooms.{used_within}
+use Rattle.hll_state.proofs.Rooms.{elements_mono, used_within}
 use Rattle.hll_state.proofs.header.Header.take_table.Goals as goal
 
 pub run_of-requires : goal.run_of-requires
@@ -28,3 +28,8 @@ returns-clause-within g c =
       widths = c.requires.within.widths;
       held = subst (λ p. AreWithin k (record { lg_size = p; added = false; run = c.run_of.result }) room) (sym c.lg_size.ensures.size) within;
     }
+
+pub returns-clause-takes : goal.returns-clause-takes
+returns-clause-takes g c done len enough =
+    let k = c.args.self.now.lg_k in
+    omega (arith, enough, elements_mono k (c.run_of.result.used + 0) (length (coupons_in c.args.table.now.buckets)) (omega (arith, c.run_of.ensures.used)))
