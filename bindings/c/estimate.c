@@ -24,9 +24,6 @@ struct estimate {
  * root of ln 2. */
 #define HIP_ERROR 0.83255461115769776
 
-/* The greatest finite double. */
-#define GREATEST 1.7976931348623157e308
-
 /* The exponent of 1.0 in the bits of a double, where the exponent has the bits from 52 on. */
 #define EXPONENT_OF_1 ((uint64_t)1023)
 
@@ -273,15 +270,14 @@ hll_status hll_histogram_estimate(const hll_histogram *histogram, hll_estimation
 hll_status hll_hip_estimate(const uint8_t *image, size_t len, hll_estimation *estimation)
 {
     hll_info info;
-    double kept, registers;
+    double registers;
     hll_status status = hll_image_info(image, len, &info, sizeof info);
     if (status != HLL_OK)
         return status;
-    kept = number_of_bits(info.hip);
-    if (info.stage != HLL_REGISTERS || info.out_of_order || !(kept > 0.0 && kept <= GREATEST))
+    if (!info.has_hip)
         return HLL_ARGUMENT;
     registers = (double)((uint32_t)1 << info.lg_k);
-    *estimation = with_bounds(kept, HIP_ERROR * square_root(1.0 / registers), registers - (double)info.zeros);
+    *estimation = with_bounds(number_of_bits(info.hip), HIP_ERROR * square_root(1.0 / registers), registers - (double)info.zeros);
     return HLL_OK;
 }
 

@@ -218,6 +218,7 @@ typedef struct hll_info {
     uint8_t stage;        /* HLL_LIST, HLL_SET or HLL_REGISTERS */
     uint8_t is_empty;     /* 1 if there is no coupon and no register above 0, else 0 */
     uint8_t out_of_order; /* of registers: 1 if the image has the out-of-order flag, else 0 */
+    uint8_t has_hip;      /* of registers: 1 if there is a HIP estimate (no flag, and `hip` is finite and above 0), else 0 */
 } hll_info;
 
 /* What a state says. A later version may add members. */
@@ -289,10 +290,10 @@ hll_status hll_image_size(const uint8_t *bytes, size_t len, size_t *size);
  * Returns HLL_OK. Allocates nothing. */
 hll_status hll_image_trailing(const uint8_t *bytes, size_t len, size_t *more);
 
-/* Counts the registers with each value, at the lg_k of the image. The coupons of a list or a set are folded to that lg_k, so
- * the call takes the time of 2^lg_k registers however small the image is.
- * Returns HLL_OK, 1 to 11, or HLL_MEMORY. Allocates 2^lg_k bytes, a map for the exceptions of 4-bit registers, and for
- * coupons what hll_image_check does. */
+/* Counts the registers with each value, at the lg_k of the image. The coupons of a list or a set count as the registers that they
+ * fold to.
+ * Returns HLL_OK, 1 to 11, or HLL_MEMORY. Allocates 2^lg_k bytes and a map for the exceptions of 4-bit registers; or for coupons
+ * 12 bytes each, and what hll_image_check does. */
 hll_status hll_image_histogram(const uint8_t *image, size_t len, hll_histogram *histogram);
 
 /* ---- making an image ---- */
@@ -351,8 +352,8 @@ hll_status hll_images_unionv(unsigned lg_max_k, unsigned width, const hll_bytes 
 /* ---- one image from another ---- */
 
 /* Writes the image at a smaller lg_k (or the same): the sketch that the same values make with that lg_k.
- * Returns HLL_OK, 1 to 11, HLL_ARGUMENT (also if lg_k is above the image's), HLL_MEMORY or HLL_BUFFER. Allocates the
- * memory of reading, 2^lg_k bytes, and the image. */
+ * Returns HLL_OK, 1 to 11, HLL_ARGUMENT (also if lg_k is above the image's), HLL_MEMORY or HLL_BUFFER. Allocates
+ * 2^lg_k bytes, the image, and for more than 128 coupons that don't ascend, or registers, the memory of reading. */
 hll_status hll_image_fold(const uint8_t *image, size_t len, unsigned lg_k, uint8_t *out, size_t room, size_t *size);
 
 /* Writes the image at another width. A width of 0 stands for the image's own width: then the image is written as this
@@ -375,9 +376,10 @@ hll_status hll_image_clear_estimator_fields(const uint8_t *image, size_t len, ui
 /* ---- comparing ---- */
 
 /* Compares the registers of two images, once both are folded to the smaller lg_k: *same is 1 if they are the same, else 0.
- * Returns HLL_OK, 1 to 11 (*failed is 0 for the left image, 1 for the right), or HLL_MEMORY. Allocates at most what
- * hll_image_histogram does, for each image. Registers of the same lg_k and width are compared in the images themselves: with
- * 6 and 8 bits nothing is allocated, with 4 bits a map for the exceptions of each image. */
+ * Returns HLL_OK, 1 to 11 (*failed is 0 for the left image, 1 for the right), or HLL_MEMORY. Allocates for two
+ * images of coupons what hll_image_histogram does. Registers of the same lg_k and width are compared in the images themselves:
+ * with 6 and 8 bits nothing is allocated, with 4 bits a map for the exceptions of each image. For other images a byte for each
+ * register at the smaller lg_k, for each image, and what reading them takes. */
 hll_status hll_images_agree(const uint8_t *left, size_t left_len, const uint8_t *right, size_t right_len, uint8_t *same,
                             size_t *failed);
 
@@ -702,7 +704,7 @@ hll_status hll_estimate(const uint8_t *image, size_t len, hll_estimation *estima
 /* Reports the HIP estimate that the writer of an image kept in it while it added values one by one, with its bounds. Its
  * standard error is a fifth smaller than the error of hll_estimate. If there is no HIP estimate, the call returns HLL_ARGUMENT:
  * for coupons, for registers that were merged (with the out-of-order flag), and if the field is 0, as this library writes it,
- * or not a number. Not proved.
+ * or not a number. Which images have one is proved (has_hip of hll_info); the bounds are tested.
  * Returns HLL_OK, 1 to 11, HLL_ARGUMENT or HLL_MEMORY. Allocates the memory of reading. */
 hll_status hll_hip_estimate(const uint8_t *image, size_t len, hll_estimation *estimation);
 

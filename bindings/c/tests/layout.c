@@ -37,6 +37,7 @@ AT(hll_info, width, 57);
 AT(hll_info, stage, 58);
 AT(hll_info, is_empty, 59);
 AT(hll_info, out_of_order, 60);
+AT(hll_info, has_hip, 61);
 
 IS(summary, hll_state_summary, 16, 8);
 AT(hll_state_summary, lg_k, 8);

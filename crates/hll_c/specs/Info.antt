@@ -1,6 +1,6 @@
 -- SPDX-License-Identifier: Apache-2.0
 -- What calls report of an image (docs/MODEL.md, "Calls over images").
-use Rattle.std.specs.Prelude.{◌≡◌, ℕ, ◌+◌, ◌*◌, ◌^◌, ◌<◌, ◌==◌, if◌then◌else◌, List, [], ◌∷◌, count_by, slice_index}
+use Rattle.std.specs.Prelude.{◌≡◌, ℕ, ◌+◌, ◌*◌, ◌^◌, ◌<◌, ◌==◌, ◌&&◌, Bool, not, nat_lt, if◌then◌else◌, List, [], ◌∷◌, count_by, slice_index}
 use Rattle.std.specs.FinSet.{len}
 use Rattle.hll_coupons.specs.Fold.{fold_to}
 use Rattle.hll_kernels.specs.Packed.{zeros, units}
@@ -15,6 +15,14 @@ use Rattle.hll_c.specs.declared.info.HllHistogram.{HllHistogram}
 abbrev pub reported_fields : HllInfo → List ℕ
 reported_fields i = i.hip ∷ i.kxq0 ∷ i.kxq1 ∷ []
 
+-- the bits of a binary64 number that is finite and above 0: sign 0, and an exponent below 2047
+abbrev pub is_positive_finite : ℕ → Bool
+is_positive_finite bits = nat_lt 0 bits && nat_lt bits (2047 * 2 ^ 52)
+
+-- registers have a HIP estimate: no flag says that they were merged, and the field for it is a finite number above 0
+abbrev pub has_hip : EstimateState → Bool
+has_hip state = not state.out_of_order && is_positive_finite (slice_index state.words 0)
+
 -- what is reported of coupons: the stage, which follows from the size of the table, and their number; the members for registers
 -- are 0
 pub record IsInfoOfCoupons (count size : ℕ) (i : HllInfo) : Type 0 where
@@ -25,6 +33,7 @@ pub record IsInfoOfCoupons (count size : ℕ) (i : HllInfo) : Type 0 where
   pub low_none : i.units_low ≡ 0
   pub fields_none : reported_fields i ≡ 0 ∷ 0 ∷ 0 ∷ []
   pub order : i.out_of_order ≡ 0
+  pub no_hip : i.has_hip ≡ 0
 
 -- what is reported of registers: how many are 0, the sum of their weights in two halves, and their estimate state
 pub record IsInfoOfRegisters (R : List ℕ) (state : EstimateState) (i : HllInfo) : Type 0 where
@@ -35,6 +44,7 @@ pub record IsInfoOfRegisters (R : List ℕ) (state : EstimateState) (i : HllInfo
   pub sum : i.units_high * 2 ^ 64 + i.units_low ≡ units R
   pub fields : reported_fields i ≡ state.words
   pub order : i.out_of_order ≡ bit state.out_of_order
+  pub hip : i.has_hip ≡ bit (has_hip state)
 
 abbrev pub IsInfoOfContent : Content → HllInfo → Type 0
 IsInfoOfContent (coupons S size) i = IsInfoOfCoupons (len S) size i

@@ -20,6 +20,7 @@ use hll_arrays::registers::two_to;
 use hll_base::bounds::{MAX_LG_K, MAX_VALUE, MIN_LG_K, SLOT_BITS};
 use hll_base::error::{Error, Reason};
 use hll_coupons::coupon::Coupon;
+use hll_images::image_coupons::max_coupons;
 use hll_kernels::kernels::greatest_of;
 use hll_registers::register_slice::RegisterSlice;
 use hll_sketch::max_registers::{fold_in_place, max_registers, merge_image, sketch_in_registers};
@@ -164,20 +165,6 @@ pub(crate) fn have_values(coupons: &[u32]) -> bool
         }
     }
     true
-}
-
-/// Adds coupons to registers. No coupon has the value 0.
-fn max_coupons(registers: &mut [u8], lg_k: u8, coupons: &[u32])
-    requires { IsLgKOf registers.old lg_k }
-    ensures { registers.new ≡ join registers.old (fold_to (set_of coupons.now) lg_k) }
-{
-    for raw in coupons {
-        max_coupon(
-            registers,
-            lg_k,
-            Coupon::pack(*raw, (*raw >> SLOT_BITS) as u8),
-        );
-    }
 }
 
 /// Folds caller-owned registers in place, into their first 2^`to` bytes.

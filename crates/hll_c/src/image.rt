@@ -23,6 +23,7 @@ ghost use Rattle.hll_c.specs.BytesOrParts.{bytes_of};
 use crate::answer::{BytesOrParts, image_with_fields};
 use crate::arguments::{asked_width, lg_k_of_number, width_of};
 use crate::batch::{are_ends, put_each};
+use crate::state::image_of_registers;
 use hll_base::bounds::{MAX_VALUE, SLOT_BITS};
 use hll_base::error::{Error, Reason};
 use hll_base::hll_type::HllType;
@@ -30,7 +31,11 @@ use hll_coupons::coupon::Coupon;
 use hll_coupons::serialization::{TGT_HLL4, TGT_HLL6, extract_tgt_hll_type};
 use hll_images::borrowed_registers::BorrowedRegisters;
 use hll_images::coupon_images::coupon_image_with;
-use hll_images::{coupon_image_at, folded_coupon_image, register_image_at, register_image_with};
+use hll_images::{
+    coupon_image_at, folded_coupon_image, folded_coupon_registers, register_image_at,
+    register_image_with,
+};
+use hll_registers::estimate_state::EstimateState;
 use hll_registers::image_parts::ImageParts;
 use hll_sketch::HllSketch;
 use hll_sketch::header::says_registers;
@@ -253,10 +258,29 @@ pub(crate) fn folded(alloc: Global, image: &[u8], lg_k: u32) -> Result<Vec<u8>, 
     ensures err { IfErr result (λ e. RefusesFold lg_k image.now e) }
 {
     let target = lg_k_of_number(lg_k)?;
-    match folded_coupon_image(alloc, target, image)? {
-        Some(written) => Ok(written),
-        None => image_with_fields(folded_sketch(alloc, image, target)?),
+    if let Some(written) = folded_coupon_image(alloc, target, image)? {
+        return Ok(written);
     }
+    if let Some(written) = folded_to_registers(alloc, image, target)? {
+        return Ok(written);
+    }
+    image_with_fields(folded_sketch(alloc, image, target)?)
+}
+
+/// Returns the image folded to an `lg_k` at which its coupons become registers, without making a table. Returns `None` if
+/// `folded_coupon_registers` does.
+fn folded_to_registers(alloc: Global, image: &[u8], lg_k: u8) -> Result<Option<Vec<u8>>, Error>
+    requires { IsLgK lg_k }
+    ensures some { IfOk result (λ found. IfSome found (λ written. IsImageOf (WithFields (IsMadeOf image.now (IsFoldOf lg_k))) written.items)) }
+    ensures read { OnErr result ((x : Sketch) × IsReadAs image.now x) }
+    ensures err { IfErr result (λ e. e ≡ reasons.Memory) }
+{
+    let Some(folded) = folded_coupon_registers(alloc, lg_k, image)? else {
+        return Ok(None);
+    };
+    let cleared = EstimateState::CLEARED;
+    let written = image_of_registers(alloc, lg_k, folded.hll_type, &folded.values, cleared)?;
+    Ok(Some(written))
 }
 
 /// Returns the sketch of the image, folded to an `lg_k`.

@@ -28,7 +28,7 @@ ghost use Rattle.hll_c.specs.Head.{SaysHead, RefusesHead};
 ghost use Rattle.hll_c.specs.Info.{SaysInfo, SaysHistogram};
 ghost use Rattle.hll_c.specs.StateInfo.{SaysStateInfo, RefusesStateInfo};
 ghost use Rattle.hll_c.specs.States.{MakesState, TakesValues, AddsToState, IsOfState, SaysEstimateOfState, RefusesEstimateOfState, RefusesEstimateOfSettled, RefusesState, JoinsImage, JoinsState};
-ghost use Rattle.hll_state.specs.Memory.{OfState, IsOnlyRead, IsSettled, KeepsWidths, is_open};
+ghost use Rattle.hll_state.specs.Memory.{OfState, IsOnlyRead, IsSettled, GrowsBy, is_open};
 ghost use Rattle.hll_state.specs.Whole.{IsWhole, LeavesWhole};
 ghost use Rattle.hll_c.specs.Unions.{IsStateOfUnion, ExtendsUnionByImage, ExtendsUnionByState};
 ghost use Rattle.hll_c.specs.declared.estimate.HllEstimate.{HllEstimate};
@@ -122,9 +122,9 @@ pub extern "C" fn hll_image_size(alloc: Global, image: &[u8], size: &mut usize) 
 /// Counts the registers of an image with each value from 0 to 63, at the image's `lg_k`. Coupons count as the registers that
 /// they fold to.
 ///
-/// Returns the reason of the first check that the bytes fail, or `Memory`. Allocates one byte for each register; a map for the
-/// exceptions of 4-bit registers; and a table for coupons, except for at most 128 or ascending ones in a compact image and for 1
-/// to 128 in an updatable one.
+/// Returns the reason of the first check that the bytes fail, or `Memory`. Allocates one byte for each register, and a map for the
+/// exceptions of 4-bit registers; or twelve bytes for each coupon, and a table, except for at most 128 or ascending coupons in a
+/// compact image and for 1 to 128 in an updatable one.
 #[unsafe(no_mangle)]
 pub extern "C" fn hll_image_histogram(
     alloc: Global,
@@ -269,7 +269,8 @@ pub extern "C" fn hll_images_unionv(
 /// Writes the image folded to an `lg_k` from 4 to its own into `out` (docs/MODEL.md, "Folding").
 ///
 /// Returns `Argument` if `lg_k` is out of that range, the reason of the first check that the image fails, or `Memory`.
-/// Allocates its sketch, the folded sketch and the written image.
+/// Allocates the folded registers and the written image; for registers, and for coupons that need a table to be read
+/// (`hll_image_histogram`), also the sketch.
 #[unsafe(no_mangle)]
 pub extern "C" fn hll_image_fold(
     alloc: Global,
@@ -338,9 +339,10 @@ pub extern "C" fn hll_image_clear_estimator_fields(
 /// Compares the registers of two images, once both are folded to the smaller `lg_k`: `same` is 1 if they are equal, else 0.
 ///
 /// Returns the reason of the first check that the first faulty image fails, with the number of that image in `failed`, or
-/// `Memory`. Allocates at most what `hll_image_histogram` does, for each image. Registers of the same `lg_k` and width are
-/// compared in the images themselves: with 6 and 8 bits nothing is allocated, with 4 bits a map for the exceptions of each
-/// image.
+/// `Memory`. Coupons of both images are compared by the registers above 0 that they fold to, and allocate what
+/// `hll_image_histogram` does. Registers of the same `lg_k` and width are compared in the images themselves: with 6 and 8 bits
+/// nothing is allocated, with 4 bits a map for the exceptions of each image. For other pairs one byte is allocated for each
+/// register at the smaller `lg_k`, for each image.
 #[unsafe(no_mangle)]
 pub extern "C" fn hll_images_agree(
     alloc: Global,
@@ -555,7 +557,7 @@ pub extern "C" fn hll_state_add(
     ends: &[usize],
 ) -> u8
     ensures added { AddsToState (AreEnds (length values.now) ends.now × TakesValues state.old) (map coupon_of_bytes (strings values.now ends.now)) state.old state.new size.old size.new result }
-    ensures widths { KeepsWidths state.old state.new }
+    ensures grows { GrowsBy (length ends.now) state.old state.new }
     ensures lg_k_open { is_open state.new ≡ is_open state.old }
     ensures left { LeavesWhole state.old state.new }
 {
@@ -566,7 +568,7 @@ pub extern "C" fn hll_state_add(
 #[unsafe(no_mangle)]
 pub extern "C" fn hll_state_add_value(state: &mut [[u8; 4]], size: &mut usize, value: &[u8]) -> u8
     ensures added { AddsToState (TakesValues state.old) (coupon_of_bytes value.now ∷ []) state.old state.new size.old size.new result }
-    ensures widths { KeepsWidths state.old state.new }
+    ensures grows { GrowsBy 1 state.old state.new }
     ensures lg_k_open { is_open state.new ≡ is_open state.old }
     ensures left { LeavesWhole state.old state.new }
 {
@@ -583,7 +585,7 @@ pub extern "C" fn hll_state_add_coupons(
     coupons: &[u32],
 ) -> u8
     ensures added { AddsToState (HaveValues coupons.now × TakesValues state.old) coupons.now state.old state.new size.old size.new result }
-    ensures widths { KeepsWidths state.old state.new }
+    ensures grows { GrowsBy (length coupons.now) state.old state.new }
     ensures lg_k_open { is_open state.new ≡ is_open state.old }
     ensures left { LeavesWhole state.old state.new }
 {

@@ -12,8 +12,11 @@ use Rattle.hll_coupons.specs.Coupons.{coupon_bytes, IsAscending, WritesAscending
 use Rattle.hll_coupons.proofs.Ascending.{len-ascending}
 use Rattle.hll_coupons.proofs.Merging.{count_in_bytes}
 use Rattle.hll_sketch.specs.Adding.{add, content_for, content_with}
-use Rattle.hll_images.specs.CouponImages.{IsInOrder, order_of, IsOrdered, IsOrderedImage, HaveUnionInTable, IsImageOfUnion, HasCouponsAt, IsImageOfUnionOfOne, AreBothRead, IsFoldedImage, IsImageOfBoth, IsImageWith}
-use Rattle.hll_sketch.specs.Folding.{folded, folded_content}
+use Rattle.hll_images.specs.CouponImages.{IsInOrder, order_of, IsOrdered, IsOrderedImage, HaveUnionInTable, IsImageOfUnion, HasCouponsAt, IsImageOfUnionOfOne, AreBothRead, AreFoldedRegisters, IsFoldedImage, IsImageOfBoth, IsImageWith}
+use Rattle.hll_sketch.specs.Folding.{IsFoldLgK, folded, folded_content}
+use Rattle.hll_sketch.proofs.Folds.{folded_is_legal}
+use Rattle.hll_registers.specs.State.{cleared_state}
+use Rattle.hll_coupons.specs.Fold.{fold_to}
 use Rattle.hll_sketch.specs.Header.{header_of}
 use Rattle.hll_images.specs.declared.coupon_images.OrderedImage.{OrderedImage}
 use Rattle.hll_sketch.specs.declared.header.Header.{Header}
@@ -21,7 +24,7 @@ use Rattle.hll_sketch.specs.Image.{AreBytes, IsReadAs, lg_k_byte, table_byte}
 use Rattle.hll_sketch.specs.Merging.{merge, merge_content, empty_union}
 use Rattle.hll_sketch.specs.Stage.{stage}
 use Rattle.hll_sketch.specs.MergedIn.{IsOfCoupons}
-use Rattle.hll_sketch.specs.Value.{Sketch, Content, coupons, in_registers, pairs_in, pairs_of, is_empty, IsLgK, IsTableFor, IsLegal, IsLegalContent}
+use Rattle.hll_sketch.specs.Value.{Sketch, Content, coupons, registers, in_registers, pairs_in, pairs_of, is_empty, IsLgK, IsTableFor, IsLegal, IsLegalContent}
 use Rattle.hll_sketch.specs.Written.{coupon_image, Written}
 use Rattle.hll_sketch.proofs.BorrowedCoupons.{none_listed}
 use Rattle.hll_sketch.proofs.CouponHeaders.{coupons_say, coupons_have}
@@ -184,6 +187,29 @@ module _ (k size : ℕ) (b xs : List ℕ) (of : IsInOrder b k size xs) where
 
       same : folded of.sketch e ≡ record { lg_k = e; width = of.sketch.width; content = coupons (set_of xs) size_at }
       same = ap (λ c. let z : Sketch = record { lg_k = e; width = of.sketch.width; content = c } in z) content
+
+  -- the registers that the fold has, if no table holds the coupons
+  pub registers_folded : (e : ℕ) (width : HllType) (R : List ℕ) → AreBytes b → of.sketch.width ≡ width → IsLgK e → e ≤ k → stage e 3 (length xs) ≡ None
+      → R ≡ fold_to (set_of xs) e → AreFoldedRegisters e b width R
+  registers_folded e width R are width_is legal within none is = record {
+    sketch = of.sketch;
+    read = of.read;
+    within = in_range;
+    is = same;
+    legal = (subst IsLegal same (folded_is_legal of.sketch e (read_is_legal b of.sketch are of.read) in_range)).content.0;
+  }
+    where
+      in_range : IsFoldLgK of.sketch.lg_k e
+      in_range = record { low = legal.low; high = subst (λ n. e ≤ n) (sym of.lg_k) within }
+
+      content : folded_content of.sketch.lg_k e of.sketch.content ≡ registers R cleared_state
+      content =
+          ap (folded_content of.sketch.lg_k e) of.content
+          ∙ ap (λ n. content_for e (set_of xs) (stage e 3 n)) (sym (len-ascending xs (set_of xs) own_order))
+          ∙ ap (content_for e (set_of xs)) none ∙ ap (λ Q. registers Q cleared_state) (sym is)
+
+      same : folded of.sketch e ≡ record { lg_k = e; width = width; content = registers R cleared_state }
+      same = λ i. record { lg_k = e; width = width_is i; content = content i }
 
   -- its table holds the coupons
   pub own_table : AreBytes b → IsTableFor k (length xs) size

@@ -1,14 +1,14 @@
 -- SPDX-License-Identifier: Apache-2.0
 -- The registers of an image.
-use Rattle.std.proofs.Common.{arith, ◌≡◌, ◌↔◌, ℕ, ◌^◌, ◌≤◌, min, Bool, IsTrue, List, ◌++◌, length, take, drop, replicate, None, ◌⊎◌, eqb, inl, inr, refl, sym, ap, ◌∙◌}
+use Rattle.std.proofs.Common.{arith, ◌≡◌, ◌↔◌, ℕ, ◌^◌, ◌≤◌, ◌<◌, false, min, Bool, IsTrue, List, ◌++◌, length, take, drop, replicate, None, ◌⊎◌, eqb, inl, inr, refl, sym, ap, ◌∙◌}
 use Rattle.std.proofs.Math.Seq.{take-append_seam}
 use Rattle.std.proofs.lemmas.Bool.{cond-false, ne_eqb}
 use Rattle.hll_base.specs.Join.{join}
 use Rattle.hll_base.specs.declared.error.Reason.{Reason}
 use Rattle.hll_base.specs.declared.error.Reason.TheVariants.{Memory}
 use Rattle.hll_coupons.proofs.Folds.{length-fold_to}
-use Rattle.hll_coupons.proofs.Registers.{fold_to-pairs}
-use Rattle.hll_coupons.specs.Fold.{fold_to, pairs}
+use Rattle.hll_coupons.proofs.Registers.{fold_to-pairs, fold_to-pairs-fold_to}
+use Rattle.hll_coupons.specs.Fold.{fold_to, pairs, raw_coupons_from}
 use Rattle.hll_coupons.specs.Pair.{Pairs, set_of}
 use Rattle.hll_registers.specs.Store.{Stored, IsStored}
 use Rattle.hll_sketch.specs.ByteRegisters.{AreRegistersOf}
@@ -16,11 +16,13 @@ use Rattle.hll_images.specs.BorrowedRegisters.{width_in}
 use Rattle.hll_sketch.specs.Header.{header_of, number_of_stage, stage_of_bits}
 use Rattle.hll_sketch.specs.declared.header.Header.{Header}
 use Rattle.hll_sketch.specs.declared.header.Stage.TheVariants as stages
-use Rattle.hll_sketch.specs.Image.{lg_k_byte, stage_bits, IsReadAs}
+use Rattle.hll_sketch.specs.Image.{lg_k_byte, stage_bits, HasHeader, IsReadAs, list, set, hll8, hll6, hll4}
 use Rattle.hll_sketch.specs.Refusal.{IsRefusal}
 use Rattle.hll_sketch.specs.MergedIn.{IsOfCoupons, IsOfRegisters}
-use Rattle.hll_sketch.specs.Value.{Sketch, pairs_in, pairs_of}
+use Rattle.hll_sketch.specs.Value.{Sketch, in_registers, pairs_in, pairs_of}
+use Rattle.std.proofs.lemmas.List.{take-append-drop}
 use Rattle.hll_sketch.proofs.CouponHeaders.{coupons_say}
+use Rattle.hll_sketch.proofs.Images.{same_stage}
 use Rattle.hll_sketch.proofs.Promoting.{join-zeros}
 use Rattle.hll_sketch.proofs.SizedImages.{sized_if_read}
 
@@ -53,21 +55,34 @@ same_at_own k j R Q b small size others is test =
     (λ t. here ∙ test.0 t ∙ sym there, λ e. test.1 (sym here ∙ e ∙ there))
 
 -- what the coupons of an image fold to
-pub of_coupons : (b order values : List ℕ) (k : ℕ) → IsOfCoupons b order → k ≡ lg_k_byte b → values ≡ fold_to (set_of order) k → AreRegistersOf b k values
-of_coupons b order values k of same are = record {
+pub of_coupons : (b order raws : List ℕ) (k : ℕ) → IsOfCoupons b order → k ≡ lg_k_byte b → raws ≡ order → AreRegistersOf b k (fold_to (set_of raws) k)
+of_coupons b order raws k of same are = record {
   sketch = of.sketch;
   read = of.read;
   lg_k = (coupons_say b order of).0 ∙ sym same;
-  are = are ∙ ap (λ c. fold_to (pairs_in c) k) (sym of.content);
+  are = ap (λ cs. fold_to (set_of cs) k) are ∙ ap (λ c. fold_to (pairs_in c) k) (sym of.content);
 }
+
+-- the sketch of an image of coupons has coupons
+pub coupons_by_stage : (b : List ℕ) (x : Sketch) → IsReadAs b x → stage_bits b < 2 → in_registers x.content ≡ false
+coupons_by_stage b x read low = elim read.image [
+  | list h is ↦ ap (λ (y : Sketch). in_registers y.content) is
+  | set h is ↦ ap (λ (y : Sketch). in_registers y.content) is
+  | hll8 h is ↦ absurd (omega (arith, low, stage h.header))
+  | hll6 h is ↦ absurd (omega (arith, low, stage h.header))
+  | hll4 h is ↦ absurd (omega (arith, low, stage h.header))
+]
+  where
+    stage : HasHeader (take read.size b) 2 → stage_bits b ≡ 2
+    stage has = sym (same_stage (take read.size b) (drop read.size b) b (take-append-drop read.size b) has.whole) ∙ has.stage_is
 
 -- an image of coupons has no registers
 pub no_width : (b : List ℕ) (h : Header) → h ≡ header_of b → (h.stage ≡ stages.List) ⊎ (h.stage ≡ stages.Set) → None ≡ width_in b
 no_width b h is either = sym (cond-false (eqb (stage_bits b) 2) _ None (ne_eqb (stage_bits b) 2 (λ two.
     let hll : h.stage ≡ stages.Hll = ap (λ (h : Header). h.stage) is ∙ ap stage_of_bits two in
     elim either [
-      | inl list ↦ let no_list : 0 ≡ 2 = ap number_of_stage (sym list ∙ hll) in omega (arith, no_list)
-      | inr set ↦ let no_set : 1 ≡ 2 = ap number_of_stage (sym set ∙ hll) in omega (arith, no_set)
+      | inl of_list ↦ let no_list : 0 ≡ 2 = ap number_of_stage (sym of_list ∙ hll) in omega (arith, no_list)
+      | inr of_set ↦ let no_set : 1 ≡ 2 = ap number_of_stage (sym of_set ∙ hll) in omega (arith, no_set)
     ])))
 
 -- the maximum of zeros and the fold of pairs
@@ -76,3 +91,13 @@ filled_with k n P zeros new none size joined =
     let is : new ≡ fold_to P k = joined ∙ ap (λ Z. join Z (fold_to P k)) none ∙ join-zeros k P in
     let long : n ≡ length new = size ∙ sym (length-fold_to P k) ∙ ap length (sym is) in
     ap (λ m. take m (new ++ drop (length new) zeros)) long ∙ take-append_seam new (drop (length new) zeros) ∙ is
+
+-- registers folded again
+pub folded_again : (P : Pairs) (k e : ℕ) (R : List ℕ) → e ≤ k → k ≤ 21 → R ≡ fold_to P k → fold_to (pairs R) e ≡ fold_to P e
+folded_again P k e R within small is = ap (λ Q. fold_to (pairs Q) e) is ∙ fold_to-pairs-fold_to P k e within small
+
+-- registers are equal if those above 0 are
+pub same_nonzero : (k : ℕ) (P Q : Pairs) (b : Bool) → k ≤ 21 → IsTrue b ↔ (raw_coupons_from 0 (fold_to P k) ≡ raw_coupons_from 0 (fold_to Q k)) → IsTrue b ↔ (fold_to P k ≡ fold_to Q k)
+same_nonzero k P Q b small test =
+    let at : k ≤ k = omega arith in
+    (λ t. sym (fold_to-pairs-fold_to P k k at small) ∙ ap (λ cs. fold_to (set_of cs) k) (test.0 t) ∙ fold_to-pairs-fold_to Q k k at small, λ e. test.1 (ap (raw_coupons_from 0) e))

@@ -4,6 +4,8 @@
 use Rattle.std.specs.Prelude.{◌≡◌, ◌≢◌, ℕ, ◌^◌, ◌==◌, if◌then◌else◌, List, length, Option, Some, None}
 use Rattle.hll_base.specs.declared.hll_type.HllType.{HllType}
 use Rattle.hll_base.specs.declared.hll_type.HllType.TheVariants.{Hll4, Hll6, Hll8}
+use Rattle.hll_coupons.specs.Fold.{fold_to}
+use Rattle.hll_coupons.specs.Pair.{set_of}
 use Rattle.hll_sketch.specs.Image.{stage_bits, width_bits, width_of_bits}
 use Rattle.hll_sketch.specs.Value.{IsLgK}
 use Rattle.hll_images.specs.declared.borrowed_registers.BorrowedRegisters.{BorrowedRegisters}
@@ -21,7 +23,7 @@ abbrev pub values_of : {A : Type 0} → BorrowedRegisters A → List ℕ
 values_of (Nibbles x) = x.registers
 values_of (Groups x) = x.registers
 values_of (Bytes x) = x.registers
-values_of (OfCoupons x) = x.values.items
+values_of (OfCoupons x) = fold_to (set_of x.raw_coupons.items) x.lg_k
 
 -- the width of registers that are borrowed from an image; `None` for those of coupons
 abbrev pub width_of : {A : Type 0} → BorrowedRegisters A → Option HllType

@@ -6,6 +6,8 @@ use Rattle.std.specs.List.Sorted.{IsStrictlyIncreasing}
 use Rattle.hll_base.specs.declared.hll_type.HllType.{HllType}
 use Rattle.hll_coupons.specs.Coupons.{raw_coupons, WritesAscending}
 use Rattle.hll_coupons.specs.Pair.{set_of}
+use Rattle.hll_kernels.specs.Packed.{AreRegisters}
+use Rattle.hll_registers.specs.State.{cleared_state}
 use Rattle.hll_sketch.specs.Folding.{folded, IsFoldLgK}
 use Rattle.hll_sketch.specs.Image.{IsReadAs}
 use Rattle.hll_sketch.specs.Laws.{add_in_turn}
@@ -13,7 +15,7 @@ use Rattle.hll_sketch.specs.Merging.{merge, empty_union}
 use Rattle.hll_sketch.specs.MergedIn.{HasCompactCoupons}
 use Rattle.hll_sketch.specs.Stage.{stage}
 use Rattle.hll_sketch.specs.Updatable.{HasUpdatableCoupons}
-use Rattle.hll_sketch.specs.Value.{Sketch, coupons, in_registers, is_empty, IsLgK, IsTableFor}
+use Rattle.hll_sketch.specs.Value.{Sketch, coupons, registers, in_registers, is_empty, IsLgK, IsTableFor}
 use Rattle.hll_sketch.specs.Written.{Written, coupon_image}
 use Rattle.hll_images.specs.declared.coupon_images.OrderedImage.{OrderedImage}
 
@@ -110,6 +112,14 @@ pub record IsImageAt (width : HllType) (image bytes : List ℕ) : Type 0 where
   pub read : IsReadAs image sketch
   pub in_table : in_registers sketch.content ≡ false
   pub written : Written bytes (record sketch { width = width })
+
+-- the sketch that an image is read as, folded to an lg_k, has these registers, and the cleared estimate state
+pub record AreFoldedRegisters (lg_k : ℕ) (image : List ℕ) (width : HllType) (R : List ℕ) : Type 0 where
+  pub sketch : Sketch
+  pub read : IsReadAs image sketch
+  pub within : IsFoldLgK sketch.lg_k lg_k
+  pub is : folded sketch lg_k ≡ record { lg_k = lg_k; width = width; content = registers R cleared_state }
+  pub legal : AreRegisters lg_k R
 
 -- the bytes are what is written for the sketch that an image is read as, folded to an lg_k; it still has coupons
 pub record IsFoldedImage (lg_k : ℕ) (image bytes : List ℕ) : Type 0 where

@@ -1,8 +1,9 @@
 // SPDX-License-Identifier: Apache-2.0
-//! The registers of an image, without a copy if they can be used in its bytes, and whether the registers of two images agree.
+//! The registers of an image, without a copy if they can be used in its bytes, and whether those of two images agree.
 ghost use Rattle.std.specs.Prelude.{◌≡◌, ◌≤◌, ◌<◌, ◌↔◌, ◌^◌, length, min, IsTrue, IfSome, IfNone, IfOk, IfErr, OnErr, Some};
 ghost use Rattle.hll_base.specs.declared.error.Reason.TheVariants.{Memory};
 ghost use Rattle.hll_coupons.specs.Fold.{fold_to, pairs};
+ghost use Rattle.hll_coupons.specs.Pair.{set_of};
 ghost use Rattle.hll_images.specs.BorrowedRegisters.{lg_k_of, values_of, width_of, width_in, AreWhole, LieAlike};
 ghost use Rattle.hll_sketch.specs.ByteRegisters.{AreRegistersOf};
 ghost use Rattle.hll_sketch.specs.Header.{header_of};
@@ -11,8 +12,8 @@ ghost use Rattle.hll_sketch.specs.MergedIn.{HasPlainRegisters};
 ghost use Rattle.hll_sketch.specs.Refusal.{IsRefusal};
 ghost use Rattle.hll_sketch.specs.Value.{IsLgK};
 
-use crate::image_registers::{ImageRegisters, registers_of_coupons};
-use hll_arrays::registers::{Registers, two_to};
+use crate::image_coupons::ImageCoupons;
+use hll_arrays::registers::Registers;
 use hll_base::error::Error;
 use hll_base::hll_type::HllType;
 use hll_registers::group_slice::GroupSlice;
@@ -20,12 +21,11 @@ use hll_registers::nibble_slice::NibbleSlice;
 use hll_registers::register_slice::RegisterSlice;
 use hll_registers::registers::Use;
 use hll_sketch::header::{Header, Stage};
-use hll_sketch::max_registers::fold_in_place;
 use hll_sketch::raw_registers::{eight_bit_registers, four_bit_registers, six_bit_registers};
 use hll_sketch::register_folds::fold_of_registers;
 use std::alloc::{Allocator, Global};
 
-/// The registers of an image: borrowed from its bytes, or computed from its coupons at its `lg_k`.
+/// The registers of an image: borrowed from its bytes, or those that its coupons fold to at its `lg_k`.
 pub enum BorrowedRegisters<'a, A: Allocator = Global> {
     /// 4-bit registers.
     Nibbles(NibbleSlice<'a, A>),
@@ -33,8 +33,8 @@ pub enum BorrowedRegisters<'a, A: Allocator = Global> {
     Groups(GroupSlice<'a>),
     /// 8-bit registers.
     Bytes(RegisterSlice<'a>),
-    /// The registers that coupons fold to, in an allocation.
-    OfCoupons(ImageRegisters<A>),
+    /// The coupons, of which the registers can be computed.
+    OfCoupons(ImageCoupons<A>),
 }
 
 /// Written out, not derived: so the proof of a function that drops registers calls this, and doesn't go through their kinds.
@@ -44,7 +44,7 @@ impl<'a, A: Allocator> Drop for BorrowedRegisters<'a, A> {
             BorrowedRegisters::Nibbles(registers) => drop(registers),
             BorrowedRegisters::Groups(registers) => drop(registers),
             BorrowedRegisters::Bytes(registers) => drop(registers),
-            BorrowedRegisters::OfCoupons(registers) => drop(registers),
+            BorrowedRegisters::OfCoupons(coupons) => drop(coupons),
         }
     }
 }
@@ -54,7 +54,7 @@ impl<'a, A: Allocator + Clone> BorrowedRegisters<'a, A> {
     ///
     /// Fails with the reason of the first check that the image fails, or else with `Memory`. Allocates only once all bytes that
     /// the image needs are there: a map for the exceptions of 4-bit registers, if there are any; and for coupons what
-    /// `registers_of_image` does.
+    /// `ImageCoupons::read` does.
     pub fn read(alloc: A, image: &'a [u8]) -> Result<BorrowedRegisters<'a, A>, Error>
         ensures ok { IfOk result (λ r. AreRegistersOf image.now (lg_k_of r) (values_of r)) }
         ensures whole { IfOk result AreWhole }
@@ -65,16 +65,16 @@ impl<'a, A: Allocator + Clone> BorrowedRegisters<'a, A> {
         let header = Header::read(image)?;
         match header.stage {
             Stage::List | Stage::Set => {
-                let registers = registers_of_coupons(alloc, image, header)?;
-                Ok(BorrowedRegisters::OfCoupons(registers))
+                let coupons = ImageCoupons::read(&alloc, image, header)?;
+                Ok(BorrowedRegisters::OfCoupons(coupons))
             }
             Stage::Hll => lying_registers(&alloc, image, header),
         }
     }
 
     /// Returns whether the registers agree with others: whether both fold to the same registers at the smaller `lg_k`. Borrowed
-    /// registers of the same `lg_k` and width are compared in their images. Others are copied by this allocator: two bytes for
-    /// each register at the smaller `lg_k`.
+    /// registers of the same `lg_k` and width are compared in their images. If both are of coupons, the registers above 0 are
+    /// compared. Others are copied by this allocator: two bytes for each register at the smaller `lg_k`.
     ///
     /// Fails with `Memory`, but never if both are borrowed from images and have the same `lg_k` and width.
     pub fn agrees_with(self, alloc: &A, other: BorrowedRegisters<'_, A>) -> Result<bool, Error>
@@ -88,40 +88,56 @@ impl<'a, A: Allocator + Clone> BorrowedRegisters<'a, A> {
             return Ok(same);
         }
         let lg_k = self.lg_k().min(other.lg_k());
-        let values = self.into_folded_values(alloc, lg_k)?;
-        let others = other.into_folded_values(alloc, lg_k)?;
+        if let Some(left) = self.coupons()
+            && let Some(right) = other.coupons()
+        {
+            return coupons_agree(alloc, lg_k, left, right);
+        }
+        let values = self.folded_values(alloc, lg_k)?;
+        let others = other.folded_values(alloc, lg_k)?;
         Ok(values.as_slice() == others.as_slice())
     }
 
     /// Returns the values of the registers, folded to an `lg_k` of at most their own.
     ///
-    /// Allocates one byte for each register, unless they were computed from coupons. Fails with `Memory`.
-    fn into_folded_values(self, alloc: &A, lg_k: u8) -> Result<Vec<u8, A>, Error>
-        requires whole { AreWhole self }
+    /// Allocates one byte for each register. Fails with `Memory`.
+    pub fn folded_values(&self, alloc: &A, lg_k: u8) -> Result<Vec<u8, A>, Error>
+        requires whole { AreWhole self.now }
         requires lg_k { IsLgK lg_k }
-        requires within { lg_k ≤ lg_k_of self }
-        ensures ok { IfOk result (λ values. values.items ≡ fold_to (pairs (values_of self.entry)) lg_k) }
+        requires within { lg_k ≤ lg_k_of self.now }
+        ensures ok { IfOk result (λ values. values.items ≡ fold_to (pairs (values_of self.now)) lg_k) }
         ensures err { IfErr result (λ e. e ≡ Memory) }
     {
         match self {
-            BorrowedRegisters::Nibbles(source) => folded_values(alloc, &source, lg_k),
-            BorrowedRegisters::Groups(source) => folded_values(alloc, &source, lg_k),
-            BorrowedRegisters::Bytes(source) => folded_values(alloc, &source, lg_k),
-            BorrowedRegisters::OfCoupons(source) => Ok(folded_in_place(source, lg_k)),
+            BorrowedRegisters::Nibbles(source) => folded_values(alloc, source, lg_k),
+            BorrowedRegisters::Groups(source) => folded_values(alloc, source, lg_k),
+            BorrowedRegisters::Bytes(source) => folded_values(alloc, source, lg_k),
+            BorrowedRegisters::OfCoupons(source) => source.registers(alloc, lg_k),
         }
     }
 }
 
 impl<'a, A: Allocator> BorrowedRegisters<'a, A> {
     /// Returns the `lg_k`.
-    fn lg_k(&self) -> u8
+    pub fn lg_k(&self) -> u8
         ensures { result ≡ lg_k_of self.now }
     {
         match self {
             BorrowedRegisters::Nibbles(registers) => registers.lg_k(),
             BorrowedRegisters::Groups(registers) => registers.lg_k(),
             BorrowedRegisters::Bytes(registers) => registers.lg_k(),
-            BorrowedRegisters::OfCoupons(registers) => registers.lg_k,
+            BorrowedRegisters::OfCoupons(coupons) => coupons.lg_k,
+        }
+    }
+
+    /// Returns the coupons, or `None` for borrowed registers.
+    pub fn coupons(&self) -> Option<&ImageCoupons<A>>
+        ensures lg_k { IfSome result (λ coupons. coupons.now.lg_k ≡ lg_k_of self.now) }
+        ensures values { IfSome result (λ coupons. values_of self.now ≡ fold_to (set_of coupons.now.raw_coupons.items) (lg_k_of self.now)) }
+    {
+        match self {
+            BorrowedRegisters::OfCoupons(coupons) => Some(coupons),
+            _ => None,
         }
     }
 
@@ -203,17 +219,18 @@ fn folded_values<R: Registers, A: Allocator + Clone>(
     Ok(fold_of_registers(alloc.clone()?, lg_k, source)?.into_values())
 }
 
-/// Returns the values of registers, folded to an `lg_k` of at most their own, in their own memory.
-fn folded_in_place<A: Allocator>(registers: ImageRegisters<A>, lg_k: u8) -> Vec<u8, A>
-    requires size { IsLgK registers.lg_k × (length registers.values.items ≡ 2 ^ registers.lg_k) }
-    requires within { lg_k ≤ registers.lg_k }
-    ensures { result.items ≡ fold_to (pairs registers.values.items) lg_k }
+/// Returns whether coupons fold to the same registers at an `lg_k`. Fails with `Memory`.
+fn coupons_agree<A: Allocator + Clone>(
+    alloc: &A,
+    lg_k: u8,
+    left: &ImageCoupons<A>,
+    right: &ImageCoupons<A>,
+) -> Result<bool, Error>
+    requires { IsLgK lg_k }
+    ensures ok { IfOk result (λ same. IsTrue same ↔ (fold_to (set_of left.now.raw_coupons.items) lg_k ≡ fold_to (set_of right.now.raw_coupons.items) lg_k)) }
+    ensures err { IfErr result (λ e. e ≡ Memory) }
 {
-    let ImageRegisters {
-        lg_k: from,
-        mut values,
-    } = registers;
-    fold_in_place(&mut values, from, lg_k);
-    values.truncate(two_to(lg_k));
-    values
+    let registers = left.nonzero_registers(alloc, lg_k)?;
+    let others = right.nonzero_registers(alloc, lg_k)?;
+    Ok(registers.as_slice() == others.as_slice())
 }

@@ -8,13 +8,14 @@ ghost use Rattle.std.specs.List.Sorted.{IsPermutation, IsStrictlyIncreasing};
 ghost use Rattle.hll_base.specs.declared.error.Reason.TheVariants.{Memory};
 ghost use Rattle.hll_coupons.specs.Coupons.{coupon_bytes, raw_coupons};
 ghost use Rattle.hll_coupons.specs.Pair.{set_of};
-ghost use Rattle.hll_images.specs.CouponImages.{order_of, IsOrdered, IsOrderedImage, HasEvidentCoupons, HaveUnionInTable, IsImageOfUnion, HasCouponsAt, IsImageOfUnionOfOne, AreBothRead, IsImageAt, IsFoldedImage, IsImageOfBoth, IsImageWith};
+ghost use Rattle.hll_images.specs.CouponImages.{order_of, IsOrdered, IsOrderedImage, HasEvidentCoupons, HaveUnionInTable, IsImageOfUnion, HasCouponsAt, IsImageOfUnionOfOne, AreBothRead, IsImageAt, AreFoldedRegisters, IsFoldedImage, IsImageOfBoth, IsImageWith};
 ghost use Rattle.hll_sketch.specs.Stage as stages;
 ghost use Rattle.hll_sketch.specs.Image.{IsReadAs, stage_bits};
 ghost use Rattle.hll_sketch.specs.Value.{Sketch, IsLgK, IsTableFor};
 ghost use Rattle.hll_sketch.specs.Written as written;
 
 use crate::sorted::{coupons_in_order, sorted_numbers};
+use hll_arrays::registers::two_to;
 use hll_base::error::Error;
 use hll_base::hll_type::HllType;
 use hll_coupons::raw_coupons::{list_image, set_image, union_of_ascending};
@@ -23,7 +24,7 @@ use hll_sketch::coupon_room::CouponRoom;
 use hll_sketch::header::{Header, says_registers};
 use hll_sketch::raw_coupons::{RawCoupons, counted_coupons};
 use hll_sketch::stage::stage;
-use std::alloc::Allocator;
+use std::alloc::{Allocator, Global};
 
 /// What an image of coupons says, with its coupons in ascending order.
 #[derive(Drop)]
@@ -368,6 +369,50 @@ pub fn folded_coupon_image<A: Allocator>(
     let coupons = ordered.raw_coupons.as_bytes();
     let written = coupon_image(alloc, lg_k, ordered.hll_type, lg_size, coupons)?;
     Ok(Some(written))
+}
+
+/// Registers that coupons were folded to.
+#[derive(Drop)]
+pub struct FoldedRegisters<A: Allocator = Global> {
+    /// The width of the image.
+    pub hll_type: HllType,
+    /// The registers, one byte for each.
+    pub values: Vec<u8, A>,
+}
+
+/// Returns the registers that the coupons of an image become at an `lg_k`, without making a table.
+///
+/// Returns `None` unless all of these hold; then a sketch has to fold the coupons:
+///
+/// - the image is compact, and its coupons ascend or are at most 128, or it is updatable and has 1 to 128 coupons;
+/// - `lg_k` is at most that of the image;
+/// - no table at `lg_k` holds the coupons.
+///
+/// Allocates one byte for each register. Fails with `Memory`.
+pub fn folded_coupon_registers<A: Allocator>(
+    alloc: A,
+    lg_k: u8,
+    image: &[u8],
+) -> Result<Option<FoldedRegisters<A>>, Error>
+    requires { IsLgK lg_k }
+    ensures some { IfOk result (λ found. IfSome found (λ r. AreFoldedRegisters lg_k image.now r.hll_type r.values.items)) }
+    ensures read { OnErr result ((x : Sketch) × IsReadAs image.now x) }
+    ensures err { IfErr result (λ e. e ≡ Memory) }
+{
+    let mut room = CouponRoom::new();
+    let Some(ordered) = ordered_image(image, &mut room) else {
+        return Ok(None);
+    };
+    let coupons = ordered.raw_coupons;
+    if ordered.lg_k < lg_k || stage(lg_k, LG_LIST_BUCKETS, coupons.count).is_some() {
+        return Ok(None);
+    }
+    let mut values = vec![in alloc; 0; two_to(lg_k)]?;
+    coupons.max_into(&mut values, lg_k);
+    Ok(Some(FoldedRegisters {
+        hll_type: ordered.hll_type,
+        values,
+    }))
 }
 
 /// Returns what an image says, if it is compact and its coupons ascend.

@@ -5,12 +5,15 @@
 
 pub mod borrowed_registers;
 pub mod coupon_images;
-pub mod image_registers;
+pub mod image_coupons;
+pub mod laws;
+mod nonzero_registers;
 pub mod register_bytes;
 pub mod register_images;
 mod sorted;
 
 pub use coupon_images::{
-    coupon_image_at, folded_coupon_image, union_of_coupon_images, union_of_one_coupon_image,
+    coupon_image_at, folded_coupon_image, folded_coupon_registers, union_of_coupon_images,
+    union_of_one_coupon_image,
 };
 pub use register_images::{register_image_at, register_image_with};

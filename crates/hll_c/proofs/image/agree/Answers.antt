@@ -61,10 +61,7 @@ pub returns-clause-ok : goal.returns-clause-ok
 returns-clause-ok c =
     let left = c.in_ok-left.ensures.ok in
     let right = c.in_ok-right.ensures.ok in
-    let x = c.in_ok-left.left in
-    let y = c.in_ok-right.right in
-    let same = same_is_agreement c.args.left.now c.args.right.now (lg_k_of x) (lg_k_of y) (values_of x) (values_of y) left.0 right.0 left.1.lg_k right.1.lg_k in
-    let test = c.in_ok-agrees_with.ensures.ok in
+    let same = same_is_agreement c.args.left.now c.args.right.now (lg_k_of c.in_ok-left.left) (lg_k_of c.in_ok-right.right) (values_of c.in_ok-left.left) (values_of c.in_ok-right.right) left.0 right.0 left.1.lg_k right.1.lg_k in
     record {
       here = left.0.sketch;
       here_read = left.0.read;
@@ -72,6 +69,6 @@ returns-clause-ok c =
       there_read = right.0.read;
       answer = c.in_ok-agrees_with.field-0;
       same_is = c.from.ensures ∙ bit_of c.in_ok-agrees_with.field-0;
-      is = (λ t. same.0 (test.0 t), λ agree. test.1 (same.1 agree));
+      is = (λ t. same.0 (c.in_ok-agrees_with.ensures.ok.0 t), λ agree. c.in_ok-agrees_with.ensures.ok.1 (same.1 agree));
       untold = right.2 ∙ left.2;
     }

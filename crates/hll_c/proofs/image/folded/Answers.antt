@@ -24,27 +24,33 @@ returns-in_err-written-clause-err c =
     IfErr-passed (RefusesFold c.args.lg_k c.args.image.now) c.from_residual-in_err-written.result e.field-0.0 c.from_residual-in_err-written.ensures.1
     (with (image_refused c.in_ok-target.ensures.ok.1 (refuses_memory c.args.image.now e.ensures.read.0 e.field-0.0 e.ensures.read.1 e.ensures.err)))
 
+pub returns-in_err-written-2-clause-err : goal.returns-in_err-written-2-clause-err
+returns-in_err-written-2-clause-err c =
+    let e = c.in_err-written-2 in
+    IfErr-passed (RefusesFold c.args.lg_k c.args.image.now) c.from_residual-in_err-written-2.result e.field-0.0 c.from_residual-in_err-written-2.ensures.1
+    (with (image_refused c.in_ok-target.ensures.ok.1 (refuses_memory c.args.image.now e.ensures.read.0 e.field-0.0 e.ensures.read.1 e.ensures.err)))
+
 pub returns-in-Some-clause-ok : goal.returns-in-Some-clause-ok
 returns-in-Some-clause-ok c =
     fold_in_bytes c.args.lg_k c.in_ok-target.target c.args.image.now c.in-Some.written.items c.in_ok-target.ensures.ok.1 c.in_ok-target.ensures.ok.0
     (subst (λ o. IfSome o (λ written. IsFoldedImage c.in_ok-target.target c.args.image.now written.items)) c.in-Some.is c.in_ok-written.ensures.some)
 
-pub returns-in_err-folded_sketch-in-None-clause-err : goal.returns-in_err-folded_sketch-in-None-clause-err
-returns-in_err-folded_sketch-in-None-clause-err c =
-    let e = c.in_err-folded_sketch-in-None in
-    IfErr-passed (RefusesFold c.args.lg_k c.args.image.now) c.from_residual-in_err-folded_sketch-in-None.result e.field-0.0 c.from_residual-in_err-folded_sketch-in-None.ensures.1
+pub returns-in_err-folded_sketch-clause-err : goal.returns-in_err-folded_sketch-clause-err
+returns-in_err-folded_sketch-clause-err c =
+    let e = c.in_err-folded_sketch in
+    IfErr-passed (RefusesFold c.args.lg_k c.args.image.now) c.from_residual-in_err-folded_sketch.result e.field-0.0 c.from_residual-in_err-folded_sketch.ensures.1
     (subst (λ k. RefusesFold k c.args.image.now e.field-0.0) c.in_ok-target.ensures.ok.0 e.ensures.err)
 
-pub returns-in_ok-folded_sketch-in-None-clause-ok : goal.returns-in_ok-folded_sketch-in-None-clause-ok
-returns-in_ok-folded_sketch-in-None-clause-ok c =
+pub returns-clause-ok : goal.returns-clause-ok
+returns-clause-ok c =
     let Made = IsMadeOf c.args.image.now (IsFoldOf c.args.lg_k) in
-    let y = sketch_of c.in_ok-folded_sketch-in-None.field-0 in
-    let made = subst (λ k. IsMadeOf c.args.image.now (IsFoldOf k) y) c.in_ok-target.ensures.ok.0 c.in_ok-folded_sketch-in-None.ensures.ok in
+    let y = sketch_of c.in_ok-folded_sketch.field-0 in
+    let made = subst (λ k. IsMadeOf c.args.image.now (IsFoldOf k) y) c.in_ok-target.ensures.ok.0 c.in_ok-folded_sketch.ensures.ok in
     IfOk-weaker c.image_with_fields.result _ (λ v. IsImageOf (WithFields Made) v.items) (λ v is. made_with_fields Made y v.items made is) c.image_with_fields.ensures.ok
 
-pub returns-in_ok-folded_sketch-in-None-clause-err : goal.returns-in_ok-folded_sketch-in-None-clause-err
-returns-in_ok-folded_sketch-in-None-clause-err c =
-    let made = c.in_ok-folded_sketch-in-None.ensures.ok in
+pub returns-clause-err : goal.returns-clause-err
+returns-clause-err c =
+    let made = c.in_ok-folded_sketch.ensures.ok in
     IfErr-weaker c.image_with_fields.result _ (RefusesFold c.args.lg_k c.args.image.now)
     (λ e memory. with (image_refused c.in_ok-target.ensures.ok.1 (refuses_memory c.args.image.now made.sketch e made.read memory)))
     c.image_with_fields.ensures.err
