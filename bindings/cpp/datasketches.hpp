@@ -16,11 +16,30 @@ namespace datasketches {
 /// The width of the registers in an image.
 enum target_hll_type { HLL_4, HLL_6, HLL_8 };
 
+/// The least and the greatest lg_k.
+namespace hll_constants {
+constexpr uint8_t MIN_LOG_K = 4;
+constexpr uint8_t MAX_LOG_K = 21;
+} // namespace hll_constants
+
 namespace detail {
 
 inline hll::width width_of(target_hll_type type)
 {
     return hll::width_of(4 + 2 * static_cast<unsigned>(type));
+}
+
+/// Calls a reader, and throws what datasketches-cpp throws for an image that it rejects: Ended if the image ends early, and
+/// otherwise std::invalid_argument.
+template <class Ended, class Read> auto read_or_throw(Read read) -> decltype(read())
+{
+    try {
+        return read();
+    } catch (const hll::image_error &e) {
+        if (e.status() == HLL_TRUNCATED)
+            throw Ended(e.what());
+        throw std::invalid_argument(e.what());
+    }
 }
 
 /// Adds values to a sketch or a union, by the rules of datasketches-cpp: an unsigned integer of less than 64 bits counts
@@ -69,13 +88,19 @@ template <class Counter> class values {
 
 } // namespace detail
 
-/// Counts distinct values. All members may throw what those of hll::sketch throw.
+/// Counts distinct values. Members throw what those of hll::sketch throw, unless they say otherwise.
 class hll_sketch : public detail::values<hll::sketch> {
   public:
     using vector_bytes = std::vector<uint8_t>;
 
     explicit hll_sketch(uint8_t lg_config_k, target_hll_type type = HLL_4, bool /* start_full_size */ = false)
         : values(hll::sketch(lg_config_k, detail::width_of(type)))
+    {
+    }
+    /// The allocator is not used: memory comes from malloc.
+    template <class A>
+    hll_sketch(uint8_t lg_config_k, target_hll_type type, bool start_full_size, const A & /* allocator */)
+        : hll_sketch(lg_config_k, type, start_full_size)
     {
     }
     hll_sketch(const hll_sketch &other, target_hll_type type) : values(hll::sketch(other.counter_, detail::width_of(type)))
@@ -87,15 +112,31 @@ class hll_sketch : public detail::values<hll::sketch> {
     const hll::sketch &get() const noexcept { return counter_; }
 
     /// Reads the image with which the bytes begin, as datasketches-cpp does; deserialize_exact throws if bytes follow it.
+    /// Throws std::out_of_range if the image ends early, or std::invalid_argument.
     static hll_sketch deserialize(const void *bytes, size_t length)
     {
-        return hll_sketch(hll::sketch::deserialize_first(bytes, length));
+        return hll_sketch(
+            detail::read_or_throw<std::out_of_range>([=] { return hll::sketch::deserialize_first(bytes, length); }));
+    }
+    template <class A> static hll_sketch deserialize(const void *bytes, size_t length, const A & /* allocator */)
+    {
+        return deserialize(bytes, length);
     }
     static hll_sketch deserialize_exact(const void *bytes, size_t length)
     {
-        return hll_sketch(hll::sketch::deserialize(bytes, length));
+        return hll_sketch(
+            detail::read_or_throw<std::out_of_range>([=] { return hll::sketch::deserialize(bytes, length); }));
     }
-    static hll_sketch deserialize(std::istream &in) { return hll_sketch(hll::sketch::deserialize(in)); }
+
+    /// Reads the next image. Throws std::runtime_error if the stream ends or fails within it, or std::invalid_argument.
+    static hll_sketch deserialize(std::istream &in)
+    {
+        return hll_sketch(detail::read_or_throw<std::runtime_error>([&] { return hll::sketch::deserialize(in); }));
+    }
+    template <class A> static hll_sketch deserialize(std::istream &in, const A & /* allocator */)
+    {
+        return deserialize(in);
+    }
 
     /// Return or write the compact image, which each library reads where it reads an updatable one.
     vector_bytes serialize_compact(unsigned header_size_bytes = 0) const
@@ -130,6 +171,9 @@ class hll_union : public detail::values<hll::union_> {
   public:
     explicit hll_union(uint8_t lg_max_k) : values(hll::union_(lg_max_k)) {}
 
+    /// The allocator is not used: memory comes from malloc.
+    template <class A> hll_union(uint8_t lg_max_k, const A & /* allocator */) : hll_union(lg_max_k) {}
+
     using values::update;
     void update(const hll_sketch &sketch) { counter_.update(sketch.get()); }
 
@@ -142,6 +186,10 @@ class hll_union : public detail::values<hll::union_> {
     /// The union of hll.hpp with the same values.
     const hll::union_ &get() const noexcept { return counter_; }
 };
+
+/// With an allocator, they are the same classes.
+template <class A> using hll_sketch_alloc = hll_sketch;
+template <class A> using hll_union_alloc = hll_union;
 
 } // namespace datasketches
 
