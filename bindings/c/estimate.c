@@ -5,6 +5,13 @@
  */
 #include "hll.h"
 
+/* Where a processor can multiply and add with one rounding, compilers use that, and bounds would have other bits than elsewhere. */
+#if defined(__clang__)
+#pragma STDC FP_CONTRACT OFF
+#elif defined(__GNUC__)
+#pragma GCC optimize("fp-contract=off")
+#endif
+
 /* What a proved call returns. */
 struct estimate {
     uint64_t bits;      /* for registers, the estimate as the bits of a double; for coupons 0 */
