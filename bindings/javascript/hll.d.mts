@@ -50,7 +50,10 @@ export interface Estimation {
   /** The estimated number of distinct values; Infinity if every register is 63. */
   estimate: number;
   relativeStandardError: number;
-  /** The bounds at 1, 2 and 3 standard deviations. */
+  /**
+   * The bounds at 1, 2 and 3 standard deviations. The number of distinct values is between them in at least about 68, 95 and 99.7 of
+   * 100 cases (docs/NUMBERS.md, "Estimates").
+   */
   lower: [number, number, number];
   upper: [number, number, number];
 }
