@@ -35,6 +35,7 @@ export const MESSAGES = Object.freeze([
 
 const OK = 0, ARGUMENT = 12, MEMORY = 13, BUFFER = 14, COARSER = 15, OTHER_LG_K = 16, TRAILING = 17;
 const STAGES = Object.freeze(["list", "set", "registers"]);
+const DEFAULT_LG_K = 12;
 // Of the state of a counter, which has no lists.
 const IN_REGISTERS = 2;
 
@@ -594,7 +595,7 @@ export function make(exports) {
     #counter = null;
     #width;
 
-    constructor(lgK = 12, width = 8) {
+    constructor(lgK = DEFAULT_LG_K, width = 8) {
       super();
       if (lgK === unmade) return;
       this.#width = checkedWidth(width);
@@ -718,6 +719,7 @@ export function make(exports) {
   /** A union of sketches, which are added one at a time. */
   class Union extends Estimator {
     #counter;
+    #isOpen; // whether the first sketch will decide the lg_k: until then it is the default
     #width;
 
     constructor(options = {}) {
@@ -726,16 +728,18 @@ export function make(exports) {
       if (width !== 0) checkedWidth(width);
       if (lgMaxK !== 0) checkedLgK(lgMaxK, "lgMaxK");
       this.#width = width;
+      this.#isOpen = lgMaxK === 0;
       this.#counter = new Counter(lgMaxK, lgMaxK);
     }
 
     static {
-      counterOfUnion = (it) => it.#counter;
+      counterOfUnion = (it) => (it.#isOpen ? null : it.#counter);
     }
 
     /** Merges a sketch, registers or an image into the union. On an error the union is unchanged. */
     add(other) {
       this.#counter.merge(other, this.#width !== 0);
+      this.#isOpen = false;
       return this;
     }
 
@@ -745,7 +749,8 @@ export function make(exports) {
     }
 
     get lgK() {
-      return this.#counter.info().lgK;
+      const { lgK } = this.#counter.info();
+      return this.#isOpen ? DEFAULT_LG_K : lgK;
     }
 
     get width() {
@@ -758,7 +763,7 @@ export function make(exports) {
 
     /** Returns the image of the union. */
     toBytes(width = this.width) {
-      return this.#counter.image(checkedWidth(width));
+      return (this.#isOpen ? new Counter(DEFAULT_LG_K, 0) : this.#counter).image(checkedWidth(width));
     }
 
     /** Returns the union as a sketch, which is a copy. */
@@ -769,6 +774,7 @@ export function make(exports) {
     /** Frees the memory now, and not when the object is collected. A union that was freed can't be used. */
     free() {
       this.#counter.free();
+      this.#isOpen = false;
     }
   }
 
@@ -782,7 +788,7 @@ export function make(exports) {
     #array;
     #bytes; // the same bytes, of a length that doesn't change
 
-    constructor(of = 12) {
+    constructor(of = DEFAULT_LG_K) {
       super();
       this.#array = typeof of === "number" ? new Uint8Array(1 << checkedLgK(of)) : of;
       if (!(this.#array instanceof Uint8Array)) throw new TypeError("registers are an lg_k or a Uint8Array");

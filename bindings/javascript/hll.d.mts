@@ -148,7 +148,8 @@ export class Union {
   /**
    * Makes an empty union. With lgMaxK (4 to 21; a number is lgMaxK), sketches of every lg_k are merged, and the union has the smallest
    * of lgMaxK and the lg_k of sketches with registers. Without it all sketches that are not empty need one lg_k. Without a width the
-   * union has the width of the sketches, or 8 if their widths differ. Throws TypeError for another option.
+   * union has the width of the sketches, or 8 if their widths differ. Until something is added it is an empty sketch of lgMaxK, or of
+   * lg_k 12. Throws TypeError for another option.
    */
   constructor(options?: number | { lgMaxK?: number; width?: Width });
   /** Merges a sketch, registers or an image. Throws HllError: "other_lg_k", or why the bytes are not an image. */

@@ -77,6 +77,16 @@ test("unions", () => {
   }
 });
 
+test("a union to which nothing was added is an empty sketch of lg_k 12", () => {
+  const none = new Union(), empty = new Sketch().toBytes();
+  assert.deepEqual([none.lgK, none.width, none.isEmpty, none.estimate(), none.toBytes(), none.toSketch().lgK], [12, 8, true, 0, empty, 12]);
+  assert.deepEqual([new Union(9).lgK, new Union({ lgMaxK: 14 }).lgK, new Union({ width: 4 }).toBytes()], [9, 14, new Sketch(12, 4).toBytes()]);
+  assert.throws(() => none.add(of("0201080a030c0008")), rejects("family"));
+  assert.deepEqual([none.lgK, none.toBytes()], [12, empty]);
+  for (const other of [none, new Union().add(none), none.toBytes()]) assert.equal(new Union().add(other).lgK, 12);
+  assert.equal(none.add(none).add(new Sketch(10).addMany(["ann", "bob"])).lgK, 10);
+});
+
 test("images", () => {
   const s = new Sketch(10, 4).addMany(Array.from({ length: 3000 }, (_, i) => i)), image = s.toBytes();
   assert.equal(image.length, sizeOf(image));
@@ -303,6 +313,7 @@ test("an empty image that is read, and values after it", () => {
   assert.deepEqual([s.lgK, s.width, s.isEmpty], [9, 6, false]);
   assert.equal(hex(s.toBytes()), hex(new Sketch(9, 6).add("ann").toBytes()));
   assert.equal(new Union().add(empty).lgK, 9);
+  assert.equal(new Sketch(9).merge(new Sketch(9)).lgK, 9);
 });
 
 test("heads, of whole images and of their first bytes", () => {
