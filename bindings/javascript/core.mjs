@@ -1,8 +1,10 @@
 // SPDX-License-Identifier: Apache-2.0
-// HyperLogLog sketches over the WebAssembly module. `make` takes the exports of an instance; hll.mjs loads one. hll.d.mts
-// describes each public item.
+// HyperLogLog sketches over the WebAssembly module, for the files that a program imports: node.mjs, hll.cjs, hll.mjs and load.mjs.
+// hll.d.mts describes each public item.
 
 // scripts/calls.py writes what follows, from bindings/c/hll.h
+const VERSION = "0.2.0";
+
 /** A word for each status of a call. */
 export const REASONS = Object.freeze([
   "ok", "truncated", "family", "version", "lgk", "width", "stage", "preamble", "lgarr", "count", "coupon", "register",
@@ -114,7 +116,9 @@ function bytesOfBase64(text) {
   } catch {
     throw rejected("The string is not base64.");
   }
-  return Uint8Array.from(decoded, (byte) => byte.charCodeAt(0));
+  const bytes = new Uint8Array(decoded.length);
+  for (let at = 0; at < bytes.length; at++) bytes[at] = decoded.charCodeAt(at);
+  return bytes;
 }
 
 /** Returns the options that a caller passes. Throws TypeError for an option that is not one of these keys. */
@@ -158,9 +162,36 @@ function guarded(exports) {
 /** The bytes that are enough for the head of each image. */
 const HEAD_BYTES = 40;
 
+/** Returns the version of a module. Throws Error if it is not the one that this file is for: a copy of hll.wasm may be older. */
+function checkedVersion(exports) {
+  const number = typeof exports.hll_version === "function" ? exports.hll_version() : NaN;
+  const version = [Math.floor(number / 1e6), Math.floor(number / 1e3) % 1e3, number % 1e3].join(".");
+  if (version === VERSION) return version;
+  throw new Error(`the module is ${Number.isNaN(number) ? "not hll.wasm" : `hll.wasm ${version}`}; copy hll.wasm of the package hll-sketches ${VERSION}`);
+}
+
+/** Returns hll.wasm compiled, of its bytes or the Response of a fetch, or as it is if it is compiled already. */
+export async function compiledOf(source) {
+  const given = await source;
+  if (Object.prototype.toString.call(given) === "[object WebAssembly.Module]") return given;
+  if (given?.ok === false) throw new Error(`hll.wasm can't be loaded: ${given.url} has the status ${given.status}`);
+  const isResponse = typeof given?.arrayBuffer === "function", bytes = isResponse ? await given.arrayBuffer() : given;
+  try {
+    return await WebAssembly.compile(ArrayBuffer.isView(bytes) ? bytesOf(bytes) : bytes); // V8 takes no DataView
+  } catch (cause) {
+    if (cause instanceof TypeError) throw new TypeError("load() takes the bytes of hll.wasm, a WebAssembly.Module or a Response, as in load(fetch(url))", { cause });
+    throw new Error(`${(isResponse && given.url) || "what load() was given"} is not hll.wasm, or this engine can't compile it: ${cause.message}`, { cause });
+  }
+}
+
+/** Returns the classes and functions over a new instance, with a memory of its own. */
+export async function load(source) {
+  return make((await WebAssembly.instantiate(await compiledOf(source))).exports);
+}
+
 /** Makes the classes over the exports of one instance. */
 export function make(exports) {
-  const wasm = guarded(exports), { memory } = wasm;
+  const version = checkedVersion(exports), wasm = guarded(exports), { memory } = wasm;
   let u8, u32, view;
 
   /** Makes views of the memory again if it grew, which detaches those that were there. */
@@ -882,7 +913,5 @@ export function make(exports) {
     }
   }
 
-  const number = wasm.hll_version();
-  const version = [Math.floor(number / 1e6), Math.floor(number / 1e3) % 1e3, number % 1e3].join(".");
   return { Sketch, Union, Registers, fault, isSmall, headOf, sizeOf, infoOf, histogramOf, hipOf, agree, couponOf, version };
 }

@@ -7,7 +7,7 @@ export type Reason =
   "register" | "argument" | "memory" | "buffer" | "coarser" | "other_lg_k" | "trailing" | "state";
 // end of what scripts/calls.py writes
 
-/** The words of statuses 0 to 16, and a sentence for each. */
+/** The words of the statuses, from 0, and a sentence for each. */
 export const REASONS: readonly Reason[];
 export const MESSAGES: readonly string[];
 
@@ -239,5 +239,15 @@ export interface Module {
   version: string;
 }
 
-/** Returns the same classes and functions over a new instance, with a memory of its own: after a TrapError, or to free all at once. */
-export function load(): Promise<Module>;
+/**
+ * hll.wasm: its bytes, a WebAssembly.Module, the Response of a fetch, or a promise of one of them. The last three are `object` here,
+ * since TypeScript knows their types only where its library "dom" is used.
+ */
+export type Source = Bytes | object;
+
+/**
+ * Returns the classes and functions over a new instance, with a memory of its own: after a TrapError, or to free all at once. Without a
+ * source it is another instance of the module that this package has. Throws TypeError for what can't be a source, and Error if a
+ * Response has a status of failure, or if the source is not hll.wasm of this version.
+ */
+export function load(source?: Source): Promise<Module>;
