@@ -114,7 +114,7 @@ pub(crate) fn put_coupons<C: Coupons>(coupons: &C, out: &mut [u32]) -> u8
     OK
 }
 
-/// Writes the coupons from number `first` on, as many as `out` has elements.
+/// Fills `out` with the coupons from number `first` on.
 pub(crate) fn put_each<C: Coupons>(coupons: &C, first: usize, out: &mut [u32])
     requires are { C.Coupons.are coupons.now }
     requires within { first + length out.old ≤ length (C.Coupons.raw_coupons coupons.now) }
