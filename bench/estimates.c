@@ -2,12 +2,12 @@
 /*
  * The estimates of the library on random streams. bench/estimates.py compiles it, and calls it with the
  * number of the first stream and how many there are. A stream is a million distinct values of eight bytes, which the
- * library hashes; each of its fronts of 1, 2, 5, 10 .. values is estimated at each lg_k, from coupons as long as the library
+ * library hashes; each of its fronts of 1, 2, 3, 5 .. values is estimated at each lg_k, from coupons as long as the library
  * keeps them, and then from registers.
  *
  * For each lg_k and number of values a line is printed: both, the number of streams, the sums of the relative errors,
- * of their squares, and of the squares of the standard errors that were told, and how often the bounds at 1, 2 and 3
- * deviations had the number within.
+ * of their squares, and of the squares of the standard errors that were told, how often the number was below the bounds at 1, 2
+ * and 3 deviations, and how often it was above them.
  */
 #include "../bindings/c/estimate.c"
 
@@ -20,16 +20,17 @@
 #define BATCH 10000
 #define LG_TABLE 19
 
-/* from the largest on, as registers are folded from one to the next */
-static const int lg_ks[] = {21, 20, 19, 18, 17, 16, 14, 12, 8, 4};
-static const long fronts[] = {1,    2,    5,    10,    20,    50,    100,    200,    500,    1000,
-                              2000, 5000, 8200, 10000, 20000, 50000, 100000, 190000, 200000, 500000, 1000000};
+#define SMALLEST 4
+static const long fronts[] = {1,     2,     3,     5,      8,      9,      10,     12,     14,     16,     20,    24,
+                              28,    32,    40,    50,     70,     100,    130,    150,    200,    300,    400,   500,
+                              700,   1000,  1500,  2000,   3000,   4000,   5000,   7000,   8200,   10000,  15000, 20000,
+                              30000, 50000, 70000, 100000, 190000, 200000, 300000, 500000, 700000, 1000000};
 
-#define LG_KS (int)(sizeof lg_ks / sizeof lg_ks[0])
+#define LG_KS (LARGEST - SMALLEST + 1)
 #define FRONTS (int)(sizeof fronts / sizeof fronts[0])
 
 static struct sums {
-    long streams, within[3];
+    long streams, below[3], above[3];
     double errors, squares, told;
 } sums[LG_KS][FRONTS];
 
@@ -100,8 +101,10 @@ static void take(struct sums *to, hll_estimation found, double values)
     to->errors += error;
     to->squares += error * error;
     to->told += found.relative_standard_error * found.relative_standard_error;
-    for (d = 0; d < 3; d++)
-        to->within[d] += found.lower[d] <= values && values <= found.upper[d];
+    for (d = 0; d < 3; d++) {
+        to->below[d] += values < found.lower[d];
+        to->above[d] += values > found.upper[d];
+    }
 }
 
 /* ---- streams ---- */
@@ -123,19 +126,21 @@ static void hash(uint64_t stream, long from, uint32_t *coupons)
         exit(1);
 }
 
-/* Estimates what there is at each lg_k. */
+/* Estimates what there is at each lg_k, from the largest on, as registers are folded from one to the next. */
 static void take_front(int front)
 {
     static uint8_t folded[1 << LARGEST];
+    hll_estimation of_coupons = estimation_of_coupons((uint64_t)distinct);
     int lg_k = LARGEST, k;
+    for (k = LARGEST; k >= SMALLEST && are_coupons(k, distinct); k--)
+        take(&sums[k - SMALLEST][front], of_coupons, (double)fronts[front]);
+    if (k < SMALLEST)
+        return;
     memcpy(folded, registers, sizeof folded);
-    for (k = 0; k < LG_KS; k++) {
-        int is_few = are_coupons(lg_ks[k], distinct);
-        fold(folded, lg_k, lg_ks[k]);
-        lg_k = lg_ks[k];
-        take(&sums[k][front],
-             is_few ? estimation_of_coupons((uint64_t)distinct) : estimation_of_bytes(folded, lg_k),
-             (double)fronts[front]);
+    for (; k >= SMALLEST; k--) {
+        fold(folded, lg_k, k);
+        lg_k = k;
+        take(&sums[k - SMALLEST][front], estimation_of_bytes(folded, k), (double)fronts[front]);
     }
 }
 
@@ -163,8 +168,9 @@ int main(int argc, char **argv)
     for (k = 0; k < LG_KS; k++)
         for (front = 0; front < FRONTS; front++) {
             struct sums *is = &sums[k][front];
-            printf("%d %ld %ld %.17g %.17g %.17g %ld %ld %ld\n", lg_ks[k], fronts[front], is->streams, is->errors,
-                   is->squares, is->told, is->within[0], is->within[1], is->within[2]);
+            printf("%d %ld %ld %.17g %.17g %.17g %ld %ld %ld %ld %ld %ld\n", SMALLEST + k, fronts[front], is->streams,
+                   is->errors, is->squares, is->told, is->below[0], is->below[1], is->below[2], is->above[0], is->above[1],
+                   is->above[2]);
         }
     return 0;
 }

@@ -1,12 +1,12 @@
 #!/usr/bin/env python3
 # SPDX-License-Identifier: Apache-2.0
 """Measures the estimates of the library for C on random streams: how far they are off, how much
-they scatter, and how often their bounds hold.
+they scatter, and how often the number of values is below or above their bounds.
 
-It compiles bench/estimates.c, runs it on 4,000 streams of a million values by two processes, prints
-tables, and draws docs/estimates.svg. Each lg_k of bench/estimates.c counts in the summary, and those
-with a color have a table. Call it with another number of streams for a shorter run, which draws
-nothing; with --write the summary, and the worst of each lg_k, go into docs/NUMBERS.md too. It needs
+It compiles bench/estimates.c, runs it on 20,000 streams of a million values by two processes, prints
+tables, and draws docs/estimates.svg. Each lg_k of bench/estimates.c has a table, and those with a
+color are in the picture. Call it with another number of streams for a shorter run, which draws
+nothing; with --write the summary, and the tables of all lg_k, go into docs/NUMBERS.md too. It needs
 a C compiler, and the library: bindings/c/build, which `make` in bindings/c makes, or the folder that
 HLL_BUILD names.
 """
@@ -22,11 +22,14 @@ ROOT = pathlib.Path(__file__).resolve().parent.parent
 BUILD = pathlib.Path(os.environ.get("HLL_BUILD", ROOT / "bindings" / "c" / "build"))
 TITLE = "How far estimates are off, and how much they scatter, by the number of distinct values"
 PAGE, PICTURE = ROOT / "docs" / "NUMBERS.md", ROOT / "docs" / "estimates.svg"
-STREAMS, PROCESSES = 4000, 2
+STREAMS, PROCESSES = 20000, 2
 BEGIN, END = "<!-- tables -->", "<!-- end of tables -->"
 COLORS = {4: "#b5352c", 8: "#b07a12", 12: "#2b6cb0", 14: "#2f855a"}
 COLORS |= {16: "#6b46c1", 18: "#b83280", 21: "#4a5568"}
 COUPONS = 1e-4  # the reported standard error is less from coupons, and greater from registers
+FEW = 100  # up to so many values the bounds may miss less often than those of a normal distribution
+TAILS = [math.erfc(d / math.sqrt(2)) / 2 for d in (1, 2, 3)]
+SURE = 3.5  # how many standard errors of the trial a share may be off
 
 
 # ---- measuring
@@ -65,14 +68,50 @@ def measured(streams):
 class Row:
     """What is told of one lg_k and number of values."""
 
-    def __init__(self, streams, errors, squares, told, *within):
+    def __init__(self, lg_k, values, streams, errors, squares, told, *missed):
+        self.lg_k, self.values, self.streams = lg_k, values, streams
         mean = errors / streams
         self.bias = mean
         self.scatter = math.sqrt(max(squares / streams - mean * mean, 0.0))
         self.told = math.sqrt(told / streams)
         self.off = mean / self.told if self.told else 0.0
         self.chance = self.scatter / math.sqrt(streams) / self.told if self.told else 0.0
-        self.within = [100 * count / streams for count in within]
+        self.below = [count / streams for count in missed[:3]]
+        self.above = [count / streams for count in missed[3:]]
+        self.outside = [below + above for below, above in zip(self.below, self.above)]
+
+    def is_of_coupons(self):
+        return self.told < COUPONS
+
+    def is_of_few(self):
+        """Whether it is of registers, and of few values or while the estimate goes in steps
+        (half_step of bindings/c/estimate.c)."""
+        seen = -math.expm1(-self.values / 2**self.lg_k)
+        is_in_steps = 2**self.lg_k * seen**5 < 3
+        return not self.is_of_coupons() and (self.values <= FEW or is_in_steps)
+
+    def is_of_many(self):
+        return not self.is_of_coupons() and not self.is_of_few()
+
+    def sides(self):
+        """For below and above, and 1, 2 and 3 deviations: by how many standard errors of the trial
+        the share is off."""
+        for side, shares_of_side in (("below", self.below), ("above", self.above)):
+            for d, (share, tail) in enumerate(zip(shares_of_side, TAILS), 1):
+                yield side, d, share, (share - tail) / chance_of(tail, self.streams)
+
+    def wrong(self):
+        """What is off by more than chance: of many values a side, and else both sides together if
+        they are missed too often."""
+        if self.is_of_many():
+            return [(side, d, share) for side, d, share, off in self.sides() if abs(off) > SURE]
+        limits = [2 * tail + SURE * chance_of(2 * tail, self.streams) for tail in TAILS]
+        return [("outside", d, self.outside[d - 1]) for d in (1, 2, 3) if self.outside[d - 1] > limits[d - 1]]
+
+
+def chance_of(share, streams):
+    """The standard error of a share that is measured over so many streams."""
+    return math.sqrt(share * (1 - share) / streams)
 
 
 # ---- tables
@@ -85,78 +124,101 @@ def percent(part):
     return f"{100 * part:.2f} %" if part >= 1e-3 else f"{100 * part:.4f} %"
 
 
+def in_percent(share, deviations):
+    return f"{100 * share:.{deviations}f}"
+
+
+def all_in_percent(shares):
+    """Shares at 1, 2 and 3 deviations."""
+    return [in_percent(share, d) for d, share in enumerate(shares, 1)]
+
+
 def table(rows, lg_k):
     """The lines of the table of an lg_k."""
     lines = [
         f"### lg_k {lg_k}",
         "",
         "| values | bias, in standard errors | scatter | reported standard error"
-        " | within 1 | within 2 | within 3 |",
-        "|---|---|---|---|---|---|---|",
+        " | below 1, % | below 2 | below 3 | above 1 | above 2 | above 3 | off |",
+        "|---|---|---|---|---|---|---|---|---|---|---|",
     ]
-    for (own, values), row in sorted(rows.items()):
-        if own == lg_k:
-            cells = [f"{values:,}", f"{row.off:+.3f} ± {row.chance:.3f}"]
-            cells += [percent(row.scatter), percent(row.told)]
-            cells += [f"{share:.1f} %" for share in row.within]
+    for row in rows:
+        if row.lg_k == lg_k:
+            cells = [f"{row.values:,}", f"{row.off:+.3f} ± {row.chance:.3f}", percent(row.scatter), percent(row.told)]
+            cells += [*all_in_percent(row.below), *all_in_percent(row.above), ", ".join(named_parts(row))]
             lines.append("| " + " | ".join(cells) + " |")
     return [*lines, ""]
 
 
-def worst(rows):
-    """The worst of some of what was measured."""
-    bias = max(abs(row.off) for row in rows)
-    shares = [min(row.within[d] for row in rows) for d in range(3)]
-    held = "{:.1f}, {:.1f} and {:.1f} %".format(*shares)
-    return (
-        f"the bias is at most {bias:.3f} of the reported standard error, and bounds at 1, 2"
-        f" and 3 deviations hold in at least {held} of the streams"
-    )
+def named_parts(row):
+    return [f"{in_percent(share, d)} % {side} at {d}" for side, d, share in row.wrong()]
 
 
-def in_registers(rows):
-    """What was measured of 100 values and more from registers, by lg_k."""
-    found = {}
-    for (lg_k, values), row in sorted(rows.items()):
-        if values >= 100 and row.told > COUPONS:
-            found.setdefault(lg_k, []).append(row)
-    return found
+def worst_of(rows):
+    """The greatest shares outside of bounds, in words."""
+    return "{}, {} and {} %".format(*all_in_percent([max(row.outside[d] for row in rows) for d in range(3)]))
 
 
-def summary(rows):
-    """The worst from coupons, and from registers of 100 values on, over all lg_k."""
-    coupons = [row for (_, values), row in rows.items() if values > 1 and row.told < COUPONS]
-    registers = [row for own in in_registers(rows).values() for row in own]
-    widest = max(row.scatter / row.told for row in registers)
-    measured_at = ", ".join(str(lg_k) for lg_k in sorted({lg_k for lg_k, _ in rows}))
-    return (
-        f"at `lg_k` {measured_at}. From coupons {worst(coupons)}. From registers, at 100 values"
-        f" and more, {worst(registers)}. The scatter is at most {widest:.2f} of the reported standard error."
-    )
+def exceptions(rows):
+    """The rows that are off by more than chance, in words."""
+    found = [f"`lg_k` {row.lg_k}, {row.values:,} values ({', '.join(named_parts(row))})" for row in rows if row.wrong()]
+    return "; ".join(found) or "none"
 
 
-def table_of_worst(rows):
-    """The worst of each lg_k from registers, of 100 values and more."""
-    lines = [
-        "| `lg_k` | bias | scatter | within 1 | within 2 | within 3 |",
-        "|---|---|---|---|---|---|",
-    ]
-    for lg_k, own in in_registers(rows).items():
-        bias = max((row.off for row in own), key=abs)
-        ratios = [row.scatter / row.told for row in own]
-        shares = " | ".join(f"{min(row.within[d] for row in own):.1f} %" for d in range(3))
-        lines.append(f"| {lg_k} | {bias:+.3f} | {min(ratios):.2f} to {max(ratios):.2f} | {shares} |")
+def own_table(rows, columns, cells_of):
+    """A table with a line for each lg_k that has rows."""
+    lines = ["| " + " | ".join(columns) + " |", "|---" * len(columns) + "|"]
+    for lg_k in sorted({row.lg_k for row in rows}):
+        lines.append(f"| {lg_k} | " + " | ".join(cells_of([row for row in rows if row.lg_k == lg_k])) + " |")
     return lines
+
+
+def spans(sides):
+    """The least and the greatest share at 1, 2 and 3 deviations."""
+    for d, shares in enumerate(zip(*sides), 1):
+        yield f"{in_percent(min(shares), d)} to {in_percent(max(shares), d)}"
+
+
+def cells_of_many(own):
+    ratios = [row.scatter / row.told for row in own]
+    sides = [*spans([row.below for row in own]), *spans([row.above for row in own])]
+    return [f"{max((row.off for row in own), key=abs):+.3f}", f"{min(ratios):.2f} to {max(ratios):.2f}", *sides]
+
+
+def cells_of_few(own):
+    values = [row.values for row in own]
+    return [f"{min(values):,} to {max(values):,}", *spans([row.outside for row in own])]
 
 
 def page_of(rows, streams):
     """What the page has of it."""
-    return "\n".join([f"{streams:,} streams, {summary(rows)}", "", *table_of_worst(rows)])
+    many, few = [row for row in rows if row.is_of_many()], [row for row in rows if row.is_of_few()]
+    coupons = [row for row in rows if row.is_of_coupons()]
+    sides = [f"{side} {d}" for side in ("below", "above") for d in (1, 2, 3)]
+    each = "{}, {} and {} %".format(*all_in_percent(TAILS))
+    both = "{}, {} and {} %".format(*all_in_percent([2 * tail for tail in TAILS]))
+    return "\n".join([
+        f"{streams:,} streams. From registers, above {FEW} values and after the steps (b from 3 on), each side is missed as often"
+        f" as by a normal distribution, in {each} of the streams:",
+        "",
+        *own_table(many, ["`lg_k`", "bias", "scatter", *sides], cells_of_many),
+        "",
+        f"Of the {6 * len(many):,} shares, for {len(many)} pairs of an `lg_k` and a number of values, these are more than {SURE}"
+        f" standard errors of the trial off, as one in 2,000 is by chance: {exceptions(many)}.",
+        "",
+        f"Up to {FEW} values, and during the steps, an estimate takes so few values that no bounds can have a given share outside."
+        f" There both sides together are missed at most as often as by a normal distribution, in {both} of the streams. More"
+        f" often, by over {SURE} standard errors of the trial: {exceptions(few)}.",
+        "",
+        *own_table(few, ["`lg_k`", "values", "outside 1", "outside 2", "outside 3"], cells_of_few),
+        "",
+        f"From coupons both sides together are missed in at most {worst_of(coupons)} of the streams.",
+    ])
 
 
 def tables(rows, streams):
     lines = [page_of(rows, streams), ""]
-    for lg_k in sorted(COLORS):
+    for lg_k in sorted({row.lg_k for row in rows}):
         lines += table(rows, lg_k)
     return "\n".join(lines)
 
@@ -224,7 +286,7 @@ def picture(rows):
     parts = [*bias.frame(), bias.band(-0.1, 0.1), *scatter.frame()]
     for place, lg_k in enumerate(sorted(COLORS)):
         color, root = COLORS[lg_k], math.sqrt(2**lg_k)
-        own = [(values, row) for (other, values), row in sorted(rows.items()) if other == lg_k]
+        own = [(row.values, row) for row in rows if row.lg_k == lg_k]
         parts.append(bias.line([(values, row.off) for values, row in own], color))
         parts += bias.dots([(values, row.off) for values, row in own], color)
         parts.append(scatter.line([(values, row.told * root) for values, row in own], color))
@@ -252,7 +314,7 @@ def main():
     parser.add_argument("streams", nargs="?", type=int, default=STREAMS)
     parser.add_argument("--write", action="store_true", help="put the tables into the page")
     chosen = parser.parse_args()
-    rows = {key: Row(*numbers) for key, numbers in measured(chosen.streams).items()}
+    rows = [Row(*key, *numbers) for key, numbers in sorted(measured(chosen.streams).items())]
     print(tables(rows, chosen.streams))
     if chosen.streams >= STREAMS or chosen.write:
         PICTURE.write_text(picture(rows), "utf-8")

@@ -1,7 +1,7 @@
 #!/bin/sh
 # SPDX-License-Identifier: Apache-2.0
-# What a user does with a wheel and with the source package of the current directory, on a machine without rt: unpacked.sh. Prints 'ok: ' and a
-# name for each thing that works, and ends with the first that doesn't.
+# What a user does with a wheel, the package for npm and the source package of the current directory, on a machine without rt: unpacked.sh.
+# Prints 'ok: ' and a name for each thing that works, and ends with the first that doesn't.
 set -eu
 python3 -m venv /tmp/venv
 /tmp/venv/bin/pip install --quiet --no-index ./*.whl
@@ -13,6 +13,17 @@ esac
 /tmp/venv/bin/python -c 'from hll_sketches import _splitter as s; import sys; sys.exit(not s.is_here())'
 [ "$(seq 1 1000 | /tmp/venv/bin/hll count)" = "$(seq 1 1000 | HLL_SKETCHES_LINES='' /tmp/venv/bin/hll count)" ]
 echo 'ok: the wheel'
+
+mkdir -p /tmp/program/node_modules
+tar -xf ./hll-sketches-"$version".tgz -C /tmp/program/node_modules
+mv /tmp/program/node_modules/package /tmp/program/node_modules/hll-sketches
+counted='console.log(version, new Sketch().addMany(["ann", "bob", "ann"]).estimate().toFixed(0));'
+echo "import { Sketch, version } from 'hll-sketches'; $counted" >/tmp/program/count.mjs
+echo "const { Sketch, version } = require('hll-sketches'); $counted" >/tmp/program/count.cjs
+for program in /tmp/program/count.?js; do
+    [ "$(node "$program")" = "$version 2" ]
+done
+echo 'ok: the package for npm'
 
 mkdir /tmp/sources
 tar -xf ./hll-sketches-"$version".tar.gz -C /tmp/sources

@@ -16,7 +16,7 @@ In these files it writes what is between two comments:
     bindings/python/hll_sketches/_errors.py     the sentences
     bindings/rust/src/libhll.rs                 the calls that the crate names
     bindings/rust/src/error.rs                  words and sentences
-    bindings/javascript/core.mjs, hll.d.mts     words and sentences
+    bindings/javascript/core.mjs, hll.d.mts     words and sentences, and the version
 
 `check` also fails if the crate exports a call that hll.h lacks, or with parameters of other types; if hll.h has a call that neither the
 crate exports nor a C file of bindings/c defines; and if no test names a call.
@@ -311,9 +311,14 @@ def python_sentences(_):
     return "_MEANINGS = {\n%s}\n" % "".join('    "%s": "%s",\n' % it for it in reasons())
 
 
+def version_numbers():
+    """Returns MAJOR, MINOR and PATCH of hll.h."""
+    return re.findall(r"(?m)^#define HLL_VERSION_\w+ (\d+)$", (ROOT / "bindings/c/hll.h").read_text("utf-8"))
+
+
 def rust_calls(others):
     """Returns the calls of libhll.rs."""
-    version = "_".join(re.findall(r"(?m)^#define HLL_VERSION_M\w+ (\d+)$", (ROOT / "bindings/c/hll.h").read_text("utf-8")))
+    version = "_".join(version_numbers()[:2])
     calls = calls_named(re.sub(r"//.*", "", others), r"\b(hll_\w+)\(")
     return "calls! {\n%s}\n" % "".join(rust_line(call, version) for call in calls)
 
@@ -326,8 +331,9 @@ def rust_sentences(_):
 def javascript_tables(_):
     words = "export const REASONS = Object.freeze([\n%s,\n]);\n" % quoted(strings_of("words"))
     sentences = "".join('  "%s",\n' % it for it in strings_of("sentences"))
-    return "/** A word for each status of a call. */\n%s\n/** A sentence for each status of a call. */\n%s" % (
-        words, "export const MESSAGES = Object.freeze([\n%s]);\n" % sentences)
+    version = 'const VERSION = "%s";\n' % ".".join(version_numbers())
+    return "%s\n/** A word for each status of a call. */\n%s\n/** A sentence for each status of a call. */\n%s" % (
+        version, words, "export const MESSAGES = Object.freeze([\n%s]);\n" % sentences)
 
 
 def javascript_type(_):

@@ -16,8 +16,8 @@ import subprocess
 CACHE = pathlib.Path(os.environ.get("XDG_CACHE_HOME") or pathlib.Path.home() / ".cache") / "hll-sketches" / "roots"
 Release = collections.namedtuple("Release", "number codename")
 RELEASES = [Release("12", "bookworm"), Release("13", "trixie")]
-# what a user has who builds with the library: a compiler, Python, the databases
-USER = "cmake g++ gcc libc6-dev make man-db pkg-config postgresql python3 python3-venv sqlite3".split()
+# what a user has who builds with the library: a compiler, Python, Node, the databases
+USER = "cmake g++ gcc libc6-dev make man-db nodejs pkg-config postgresql python3 python3-venv sqlite3".split()
 TRIES, MINUTES = 3, 20
 PLAIN = {"PATH": "/usr/sbin:/usr/bin:/sbin:/bin", "LC_ALL": "C.UTF-8", "TZ": "UTC", "HOME": "/room"}
 # $0 is the root, $1 the script, $2 a directory for the copy and $3 what the script sees as /room

@@ -5,6 +5,13 @@
  */
 #include "hll.h"
 
+/* Where a processor can multiply and add with one rounding, compilers use that, and bounds would have other bits than elsewhere. */
+#if defined(__clang__)
+#pragma STDC FP_CONTRACT OFF
+#elif defined(__GNUC__)
+#pragma GCC optimize("fp-contract=off")
+#endif
+
 /* What a proved call returns. */
 struct estimate {
     uint64_t bits;      /* for registers, the estimate as the bits of a double; for coupons 0 */
@@ -29,8 +36,6 @@ struct estimate {
 
 /* The number of slots: each of 2^26 slots has the same probability. */
 #define SLOTS 67108864.0
-
-/* The most coupons that are estimated from: one for each slot. */
 
 /* A double and its bits. */
 union word {
@@ -64,14 +69,19 @@ static double square_root(double x)
 
 /* ---- from registers ---- */
 
+/* Returns a number from 1, for few values, to 0, for many. What is fitted to measurements below depends on it. */
+static double fewness(double estimate, double registers)
+{
+    return 1.0 / (1.0 + estimate / registers / 4.0);
+}
+
 /* Returns the relative standard error of an estimate from n registers: sqrt(0.5 / n) for few values, 1.04 / sqrt(n) for
  * many, and a little more if registers are few. Between, it is fitted to measurements. */
-static double error_of_registers(double estimate, double registers)
+static double error_of_registers(double few, double registers)
 {
-    double few = 1.0 / (1.0 + estimate / registers / 16.0);
     double limit = REGISTER_VARIANCE * (1.0 + 2.0 / registers);
-    double variance = limit - (limit - 0.5) * few * few * few * few;
-    return square_root(variance / registers);
+    double part = few * (0.19 + few * (1.84 - 1.03 * few));
+    return square_root((limit - (limit - 0.5) * part) / registers);
 }
 
 /* ---- from coupons ---- */
@@ -129,6 +139,11 @@ static double error_of_many_coupons(double values)
 
 #define DEVIATIONS 3
 
+static double at_least(double least, double x)
+{
+    return x < least ? least : x;
+}
+
 /* The probability that a normally distributed number is more than 1, 2 or 3 standard deviations above its mean. */
 static const double tails[DEVIATIONS] = {0.15865525393145705, 0.022750131948179207, 0.0013498980316300945};
 
@@ -138,14 +153,42 @@ static hll_estimation with_bounds(double estimate, double error, double least)
 {
     hll_estimation found;
     int d;
-    found.estimate = estimate < least ? least : estimate;
+    found.estimate = at_least(least, estimate);
     found.relative_standard_error = error;
     for (d = 1; d <= DEVIATIONS; d++) {
-        double lower = found.estimate / (1.0 + d * error);
-        found.lower[d - 1] = lower < least ? least : lower;
+        found.lower[d - 1] = at_least(least, found.estimate / (1.0 + d * error));
         found.upper[d - 1] = found.estimate / (1.0 - d * error);
     }
     return found;
+}
+
+/* Where most registers are 0, an estimate depends on little but how many are 0, so it goes in steps: one more register above 0 adds
+ * registers / zeros. Returns half a step, by which bounds move outwards. The values of the registers above 0 blur the steps, and the
+ * result falls to 0 while they scatter the estimate by 0.24 to 0.42 of a step. */
+static double half_step(double registers, double seen)
+{
+    double share = seen / registers, blur = seen * share * share * share * share;
+    double part = blur < 1.0 ? 1.0 : 1.5 - 0.5 * blur;
+    return blur < 3.0 ? part * registers / (registers - seen) / 2.0 : 0.0;
+}
+
+/* Sets the bounds of an estimate from registers, of which `seen` are above 0. The cube root of the number of values divided by the
+ * estimate is nearly normally distributed: for many values the inverse of the estimate nearly has a Gamma distribution, to which
+ * Wilson and Hilferty's formula applies. `skew` is what remains. It is most for few values, where the number of values that share a
+ * register with others nearly has a Poisson distribution. The constants are fitted to measurements. */
+static void bound_by_registers(hll_estimation *found, double few, double registers, double seen)
+{
+    double root = found->relative_standard_error / 3.0 * (1.0 - 0.74 * (1.0 - few) / registers);
+    double middle = 1.0 + (0.226 + few * few * (0.15 - 0.36 * few * few)) / registers;
+    double skew = 1.0 / 18.0 / found->estimate + 0.01 / registers;
+    double less = skew < root / 6.0 ? skew : root / 6.0; /* so that lower bounds are lower at more deviations */
+    double outwards = half_step(registers, seen);
+    int d;
+    for (d = 1; d <= DEVIATIONS; d++) {
+        double low = middle + (d * d - 1) * less - d * root, high = middle + (d * d - 1) * skew + d * root;
+        found->lower[d - 1] = at_least(seen, found->estimate * low * low * low - outwards);
+        found->upper[d - 1] = found->estimate * high * high * high + outwards;
+    }
 }
 
 /* The probability that a number is at most, and at least, a given number. */
@@ -205,10 +248,15 @@ static double number_of_bits(uint64_t bits)
 /* Returns the estimation of registers, from the result of a proved call. */
 static hll_estimation estimation_of_registers(const struct estimate *found)
 {
-    double estimate = number_of_bits(found->bits);
+    double registers = (double)found->registers, seen = (double)found->seen, few;
+    hll_estimation estimation = {0.0, 0.0, {0.0, 0.0, 0.0}, {0.0, 0.0, 0.0}};
     if (found->seen == 0)
-        return with_bounds(0.0, 0.0, 0.0);
-    return with_bounds(estimate, error_of_registers(estimate, (double)found->registers), (double)found->seen);
+        return estimation;
+    estimation.estimate = at_least(seen, number_of_bits(found->bits));
+    few = fewness(estimation.estimate, registers);
+    estimation.relative_standard_error = error_of_registers(few, registers);
+    bound_by_registers(&estimation, few, registers, seen);
+    return estimation;
 }
 
 /* Returns the estimation of a list or a set of n coupons. */

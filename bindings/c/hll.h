@@ -237,11 +237,12 @@ typedef struct hll_histogram {
 } hll_histogram;
 
 /* An estimate of the number of distinct values, and bounds at 1, 2 and 3 standard deviations. The true number is between the
- * bounds in about 68, 95 and 99.7 of 100 cases, and more often if the sketch is a list or a set. */
+ * bounds in at least about 68, 95 and 99.7 of 100 cases; docs/NUMBERS.md, "Estimates", has what was measured. Estimates and bounds
+ * have the same bits on every processor. */
 typedef struct hll_estimation {
     double estimate;
     double relative_standard_error; /* the standard deviation of the estimate, divided by the number of values */
-    double lower[3];                /* lower[d - 1] and upper[d - 1] are the bounds at d deviations */
+    double lower[3];                /* lower[d - 1] <= estimate <= upper[d - 1] are the bounds at d deviations */
     double upper[3];
 } hll_estimation;
 

@@ -5,8 +5,6 @@
  */
 #include "hll.h"
 
-#include <string.h>
-
 /* Declares the proved calls that are wrapped, which have the prefix proved_ here. */
 struct estimate; /* of estimate.c */
 #define CALL(type, name, parameters, arguments)
@@ -72,5 +70,5 @@ hll_status hll_state_check(const void *state, size_t room)
     if (status == HLL_OK || room < HLL_STATE_NEW)
         return status;
     (void)hll_state_new(4, own, sizeof own);
-    return memcmp(bytes + 1, own + 1, 2) == 0 && bytes[3] != own[3] ? HLL_STATE : status;
+    return bytes[1] == own[1] && bytes[2] == own[2] && bytes[3] != own[3] ? HLL_STATE : status;
 }

@@ -563,8 +563,8 @@ class counter {
         return estimation().estimate;
     }
 
-    /// Return the bounds at 1, 2 or 3 standard deviations. The true number is between them in about 68, 95 and 99.7 of
-    /// 100 cases.
+    /// Return the bounds at 1, 2 or 3 standard deviations. The true number is between them in at least about 68, 95 and 99.7
+    /// of 100 cases (docs/NUMBERS.md, "Estimates").
     double lower_bound(unsigned deviations) const
     {
         return estimation().lower[index_of(deviations)];

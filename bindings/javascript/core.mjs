@@ -1,8 +1,10 @@
 // SPDX-License-Identifier: Apache-2.0
-// HyperLogLog sketches over the WebAssembly module. `make` takes the exports of an instance; hll.mjs loads one. hll.d.mts
-// describes each public item.
+// HyperLogLog sketches over the WebAssembly module, for the files that a program imports: node.mjs, hll.cjs, hll.mjs and load.mjs.
+// hll.d.mts describes each public item.
 
 // scripts/calls.py writes what follows, from bindings/c/hll.h
+const VERSION = "0.2.0";
+
 /** A word for each status of a call. */
 export const REASONS = Object.freeze([
   "ok", "truncated", "family", "version", "lgk", "width", "stage", "preamble", "lgarr", "count", "coupon", "register",
@@ -35,6 +37,7 @@ export const MESSAGES = Object.freeze([
 
 const OK = 0, ARGUMENT = 12, MEMORY = 13, BUFFER = 14, COARSER = 15, OTHER_LG_K = 16, TRAILING = 17;
 const STAGES = Object.freeze(["list", "set", "registers"]);
+const DEFAULT_LG_K = 12;
 // Of the state of a counter, which has no lists.
 const IN_REGISTERS = 2;
 
@@ -113,7 +116,9 @@ function bytesOfBase64(text) {
   } catch {
     throw rejected("The string is not base64.");
   }
-  return Uint8Array.from(decoded, (byte) => byte.charCodeAt(0));
+  const bytes = new Uint8Array(decoded.length);
+  for (let at = 0; at < bytes.length; at++) bytes[at] = decoded.charCodeAt(at);
+  return bytes;
 }
 
 /** Returns the options that a caller passes. Throws TypeError for an option that is not one of these keys. */
@@ -157,9 +162,36 @@ function guarded(exports) {
 /** The bytes that are enough for the head of each image. */
 const HEAD_BYTES = 40;
 
+/** Returns the version of a module. Throws Error if it is not the one that this file is for: a copy of hll.wasm may be older. */
+function checkedVersion(exports) {
+  const number = typeof exports.hll_version === "function" ? exports.hll_version() : NaN;
+  const version = [Math.floor(number / 1e6), Math.floor(number / 1e3) % 1e3, number % 1e3].join(".");
+  if (version === VERSION) return version;
+  throw new Error(`the module is ${Number.isNaN(number) ? "not hll.wasm" : `hll.wasm ${version}`}; copy hll.wasm of the package hll-sketches ${VERSION}`);
+}
+
+/** Returns hll.wasm compiled, of its bytes or the Response of a fetch, or as it is if it is compiled already. */
+export async function compiledOf(source) {
+  const given = await source;
+  if (Object.prototype.toString.call(given) === "[object WebAssembly.Module]") return given;
+  if (given?.ok === false) throw new Error(`hll.wasm can't be loaded: ${given.url} has the status ${given.status}`);
+  const isResponse = typeof given?.arrayBuffer === "function", bytes = isResponse ? await given.arrayBuffer() : given;
+  try {
+    return await WebAssembly.compile(ArrayBuffer.isView(bytes) ? bytesOf(bytes) : bytes); // V8 takes no DataView
+  } catch (cause) {
+    if (cause instanceof TypeError) throw new TypeError("load() takes the bytes of hll.wasm, a WebAssembly.Module or a Response, as in load(fetch(url))", { cause });
+    throw new Error(`${(isResponse && given.url) || "what load() was given"} is not hll.wasm, or this engine can't compile it: ${cause.message}`, { cause });
+  }
+}
+
+/** Returns the classes and functions over a new instance, with a memory of its own. */
+export async function load(source) {
+  return make((await WebAssembly.instantiate(await compiledOf(source))).exports);
+}
+
 /** Makes the classes over the exports of one instance. */
 export function make(exports) {
-  const wasm = guarded(exports), { memory } = wasm;
+  const version = checkedVersion(exports), wasm = guarded(exports), { memory } = wasm;
   let u8, u32, view;
 
   /** Makes views of the memory again if it grew, which detaches those that were there. */
@@ -594,7 +626,7 @@ export function make(exports) {
     #counter = null;
     #width;
 
-    constructor(lgK = 12, width = 8) {
+    constructor(lgK = DEFAULT_LG_K, width = 8) {
       super();
       if (lgK === unmade) return;
       this.#width = checkedWidth(width);
@@ -718,6 +750,7 @@ export function make(exports) {
   /** A union of sketches, which are added one at a time. */
   class Union extends Estimator {
     #counter;
+    #isOpen; // whether the first sketch will decide the lg_k: until then it is the default
     #width;
 
     constructor(options = {}) {
@@ -726,16 +759,18 @@ export function make(exports) {
       if (width !== 0) checkedWidth(width);
       if (lgMaxK !== 0) checkedLgK(lgMaxK, "lgMaxK");
       this.#width = width;
+      this.#isOpen = lgMaxK === 0;
       this.#counter = new Counter(lgMaxK, lgMaxK);
     }
 
     static {
-      counterOfUnion = (it) => it.#counter;
+      counterOfUnion = (it) => (it.#isOpen ? null : it.#counter);
     }
 
     /** Merges a sketch, registers or an image into the union. On an error the union is unchanged. */
     add(other) {
       this.#counter.merge(other, this.#width !== 0);
+      this.#isOpen = false;
       return this;
     }
 
@@ -745,7 +780,8 @@ export function make(exports) {
     }
 
     get lgK() {
-      return this.#counter.info().lgK;
+      const { lgK } = this.#counter.info();
+      return this.#isOpen ? DEFAULT_LG_K : lgK;
     }
 
     get width() {
@@ -758,7 +794,7 @@ export function make(exports) {
 
     /** Returns the image of the union. */
     toBytes(width = this.width) {
-      return this.#counter.image(checkedWidth(width));
+      return (this.#isOpen ? new Counter(DEFAULT_LG_K, 0) : this.#counter).image(checkedWidth(width));
     }
 
     /** Returns the union as a sketch, which is a copy. */
@@ -769,6 +805,7 @@ export function make(exports) {
     /** Frees the memory now, and not when the object is collected. A union that was freed can't be used. */
     free() {
       this.#counter.free();
+      this.#isOpen = false;
     }
   }
 
@@ -782,7 +819,7 @@ export function make(exports) {
     #array;
     #bytes; // the same bytes, of a length that doesn't change
 
-    constructor(of = 12) {
+    constructor(of = DEFAULT_LG_K) {
       super();
       this.#array = typeof of === "number" ? new Uint8Array(1 << checkedLgK(of)) : of;
       if (!(this.#array instanceof Uint8Array)) throw new TypeError("registers are an lg_k or a Uint8Array");
@@ -876,7 +913,5 @@ export function make(exports) {
     }
   }
 
-  const number = wasm.hll_version();
-  const version = [Math.floor(number / 1e6), Math.floor(number / 1e3) % 1e3, number % 1e3].join(".");
   return { Sketch, Union, Registers, fault, isSmall, headOf, sizeOf, infoOf, histogramOf, hipOf, agree, couponOf, version };
 }

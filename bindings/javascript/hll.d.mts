@@ -7,7 +7,7 @@ export type Reason =
   "register" | "argument" | "memory" | "buffer" | "coarser" | "other_lg_k" | "trailing" | "state";
 // end of what scripts/calls.py writes
 
-/** The words of statuses 0 to 16, and a sentence for each. */
+/** The words of the statuses, from 0, and a sentence for each. */
 export const REASONS: readonly Reason[];
 export const MESSAGES: readonly string[];
 
@@ -50,7 +50,10 @@ export interface Estimation {
   /** The estimated number of distinct values; Infinity if every register is 63. */
   estimate: number;
   relativeStandardError: number;
-  /** The bounds at 1, 2 and 3 standard deviations. */
+  /**
+   * The bounds at 1, 2 and 3 standard deviations. The number of distinct values is between them in at least about 68, 95 and 99.7 of
+   * 100 cases (docs/NUMBERS.md, "Estimates").
+   */
   lower: [number, number, number];
   upper: [number, number, number];
 }
@@ -148,7 +151,8 @@ export class Union {
   /**
    * Makes an empty union. With lgMaxK (4 to 21; a number is lgMaxK), sketches of every lg_k are merged, and the union has the smallest
    * of lgMaxK and the lg_k of sketches with registers. Without it all sketches that are not empty need one lg_k. Without a width the
-   * union has the width of the sketches, or 8 if their widths differ. Throws TypeError for another option.
+   * union has the width of the sketches, or 8 if their widths differ. Until something is added it is an empty sketch of lgMaxK, or of
+   * lg_k 12. Throws TypeError for another option.
    */
   constructor(options?: number | { lgMaxK?: number; width?: Width });
   /** Merges a sketch, registers or an image. Throws HllError: "other_lg_k", or why the bytes are not an image. */
@@ -238,5 +242,15 @@ export interface Module {
   version: string;
 }
 
-/** Returns the same classes and functions over a new instance, with a memory of its own: after a TrapError, or to free all at once. */
-export function load(): Promise<Module>;
+/**
+ * hll.wasm: its bytes, a WebAssembly.Module, the Response of a fetch, or a promise of one of them. The last three are `object` here,
+ * since TypeScript knows their types only where its library "dom" is used.
+ */
+export type Source = Bytes | object;
+
+/**
+ * Returns the classes and functions over a new instance, with a memory of its own: after a TrapError, or to free all at once. Without a
+ * source it is another instance of the module that this package has. Throws TypeError for what can't be a source, and Error if a
+ * Response has a status of failure, or if the source is not hll.wasm of this version.
+ */
+export function load(source?: Source): Promise<Module>;

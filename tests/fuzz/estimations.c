@@ -56,11 +56,33 @@ static void check_order(const hll_estimation *found, double least)
     }
 }
 
+/* By how much bounds move outwards: half of what one more register above 0 adds. */
+static double half_step(double m, double seen)
+{
+    double blur = pow(seen, 5) / pow(m, 4);
+    return blur < 3 ? fmin(1, (3 - blur) / 2) * m / (m - seen) / 2 : 0;
+}
+
+static void check_bounds(double m, double seen, const hll_estimation *found)
+{
+    double n = found->estimate, few = 1 / (1 + n / m / 4), limit = (3 * log(2.0) - 1) * (1 + 2 / m);
+    double error = sqrt((limit - (limit - 0.5) * (0.19 * few + 1.84 * few * few - 1.03 * pow(few, 3))) / m);
+    double root = error / 3 * (1 - 0.74 * (1 - few) / m), skew = 1 / (18 * n) + 0.01 / m, step = half_step(m, seen);
+    double middle = 1 + (0.226 + 0.15 * few * few - 0.36 * pow(few, 4)) / m;
+    int d;
+    CHECK(is_near(found->relative_standard_error, error), "error %g in place of %g", found->relative_standard_error, error);
+    for (d = 1; d <= 3; d++) {
+        double low = n * pow(middle + (d * d - 1) * fmin(skew, root / 6) - d * root, 3) - step;
+        double high = n * pow(middle + (d * d - 1) * skew + d * root, 3) + step;
+        CHECK(is_near(found->lower[d - 1], fmax(low, seen)) && is_near(found->upper[d - 1], high),
+              "bounds %d are %g and %g", d, found->lower[d - 1], found->upper[d - 1]);
+    }
+}
+
 static void check_registers(const plain *x, const hll_estimation *found)
 {
-    double m = ldexp(1.0, (int)x->lg_k), wanted = estimate_of_registers(x), seen = 0, few, limit, error;
+    double m = ldexp(1.0, (int)x->lg_k), wanted = estimate_of_registers(x), seen = 0;
     size_t k = (size_t)1 << x->lg_k, i, most = 0;
-    int d;
     for (i = 0; i < k; i++) {
         seen += x->registers[i] != 0;
         most += x->registers[i] == 63;
@@ -71,16 +93,8 @@ static void check_registers(const plain *x, const hll_estimation *found)
     }
     CHECK(is_near(found->estimate, wanted), "%.17g in place of %.17g", found->estimate, wanted);
     check_order(found, seen);
-    if (seen == 0)
-        return;
-    few = 1 / (1 + wanted / m / 16);
-    limit = (3 * log(2.0) - 1) * (1 + 2 / m);
-    error = sqrt((limit - (limit - 0.5) * few * few * few * few) / m);
-    CHECK(is_near(found->relative_standard_error, error), "error %g in place of %g", found->relative_standard_error, error);
-    for (d = 1; d <= 3; d++)
-        CHECK(is_near(found->lower[d - 1], fmax(wanted / (1 + d * error), seen)) &&
-                  is_near(found->upper[d - 1], wanted / (1 - d * error)),
-              "bounds %d are %g and %g", d, found->lower[d - 1], found->upper[d - 1]);
+    if (seen != 0)
+        check_bounds(m, seen, found);
 }
 
 void check_estimation(const plain *x, const hll_estimation *found)

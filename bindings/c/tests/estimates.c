@@ -82,6 +82,156 @@ static void test_other_histograms(void)
     CHECK(memcmp(&found, &before, sizeof found) == 0, "a refusal writes nothing");
 }
 
+/* ---- bounds of many registers, and of many streams ---- */
+
+/* Numbers that look random, and are the same at each run (splitmix64). */
+static uint64_t next_number(uint64_t *state)
+{
+    uint64_t x = *state += UINT64_C(0x9e3779b97f4a7c15);
+    x = (x ^ x >> 30) * UINT64_C(0xbf58476d1ce4e5b9);
+    x = (x ^ x >> 27) * UINT64_C(0x94d049bb133111eb);
+    return x ^ x >> 31;
+}
+
+/* Puts 2^lg_k registers into a histogram, of which `seen` are above 0: half of them have a value, half of the others the next value,
+ * and so on; if not `is_usual`, each part is any part. The value after 63 is 1. */
+static void fill(hll_histogram *to, unsigned lg_k, uint64_t seen, unsigned first, int is_usual, uint64_t *state)
+{
+    uint64_t left = seen;
+    unsigned value = first;
+    memset(to, 0, sizeof *to);
+    to->counts[0] = ((uint64_t)1 << lg_k) - seen;
+    while (left != 0) {
+        uint64_t part = is_usual ? (left + 1) / 2 : next_number(state) % left + 1;
+        to->counts[value] += part;
+        left -= part;
+        value = value % 63 + 1;
+    }
+}
+
+/* Adds the bits of a number to a sum of all. */
+static void sum_bits(uint64_t *sum, double number)
+{
+    uint64_t bits;
+    memcpy(&bits, &number, sizeof bits);
+    *sum = (*sum ^ bits) * UINT64_C(0x100000001b3);
+    *sum ^= *sum >> 29;
+}
+
+/* Checks the order of the bounds of a histogram, that they are numbers of values, and that the lower ones are at least the number of
+ * registers above 0. */
+static void check_bounds(const hll_histogram *histogram, uint64_t seen, uint64_t *sum)
+{
+    hll_estimation found;
+    int d;
+    CHECK(hll_histogram_estimate(histogram, &found) == HLL_OK, "%d seen", (int)seen);
+    check_order(&found, "a histogram");
+    CHECK(found.lower[2] >= (double)seen, "%d seen: %.17g below", (int)seen, found.lower[2]);
+    CHECK(found.upper[2] < INFINITY || found.estimate == INFINITY, "%d seen: %.17g above", (int)seen, found.upper[2]);
+    for (d = 0; d < 3; d++) {
+        sum_bits(sum, found.lower[d]);
+        sum_bits(sum, found.upper[d]);
+    }
+}
+
+/* Registers of each lg_k, from one above 0 to all, with usual values and with any. Their bounds have the same bits on every
+ * processor, of which BITS is a sum. */
+#define BITS UINT64_C(0xbdc332221cb34d9a)
+
+static void test_bounds(void)
+{
+    uint64_t state = 1, sum = 0;
+    hll_histogram histogram;
+    unsigned lg_k, first;
+    for (lg_k = 4; lg_k <= 21; lg_k++) {
+        uint64_t count = (uint64_t)1 << lg_k, seen;
+        for (seen = 1; seen <= count; seen += seen / 64 + 1) {
+            fill(&histogram, lg_k, seen, 1, 1, &state);
+            check_bounds(&histogram, seen, &sum);
+            fill(&histogram, lg_k, seen, 1 + (unsigned)(next_number(&state) % 63), 0, &state);
+            check_bounds(&histogram, seen, &sum);
+        }
+        for (first = 1; first < 64; first++) {
+            fill(&histogram, lg_k, count, first, 1, &state);
+            check_bounds(&histogram, count, &sum);
+        }
+    }
+    CHECK(sum == BITS, "other bits: 0x%08lx%08lx", (unsigned long)(sum >> 32), (unsigned long)(sum & 0xffffffff));
+}
+
+/* In how many of STREAMS streams the number of values may be below the bounds at 1, 2 and 3 deviations, in how many it may be above
+ * them, and in how many it may be outside: as in the tails of a normal distribution, and 3.5 standard errors of this trial. */
+#define STREAMS 2000
+static const int fewest_missed[3] = {261, 23, 0}, most_missed[3] = {374, 68, 8}, most_outside[3] = {707, 123, 13};
+
+/* In how many streams the number of values is below the bounds, and above them. */
+struct missed {
+    int below[3], above[3];
+};
+
+static void count_missed(struct missed *missed, const hll_estimation *found, double values)
+{
+    int d;
+    for (d = 0; d < 3; d++) {
+        missed->below[d] += values < found->lower[d];
+        missed->above[d] += values > found->upper[d];
+    }
+}
+
+/* Counts streams of n values, no two of which are equal, in 2^lg_k registers. */
+static struct missed run_streams(unsigned lg_k, size_t n, uint64_t seed)
+{
+    static uint8_t registers[1024];
+    static uint64_t values[4096];
+    struct missed missed = {{0, 0, 0}, {0, 0, 0}};
+    hll_estimation found;
+    int stream;
+    size_t i;
+    for (stream = 0; stream < STREAMS; stream++) {
+        memset(registers, 0, sizeof registers);
+        for (i = 0; i < n; i++)
+            values[i] = next_number(&seed);
+        need(hll_registers_add_fixed(registers, (size_t)1 << lg_k, (const uint8_t *)values, 8 * n, 8) == HLL_OK, "values");
+        need(hll_registers_estimate(registers, (size_t)1 << lg_k, &found) == HLL_OK, "registers");
+        count_missed(&missed, &found, (double)n);
+    }
+    return missed;
+}
+
+/* Whether as many streams are below or above bounds at d + 1 deviations as of a normal distribution. */
+static int is_normal(int missed, int d)
+{
+    return fewest_missed[d] <= missed && missed <= most_missed[d];
+}
+
+static void check_missed(unsigned lg_k, size_t n, const struct missed *missed)
+{
+    int d;
+    for (d = 0; d < 3; d++) {
+        int below = missed->below[d], above = missed->above[d];
+        CHECK(below + above <= most_outside[d], "lg_k %u, %d values, %d: %d and %d", lg_k, (int)n, d + 1, below, above);
+        CHECK(n <= 100 || is_normal(below, d), "lg_k %u, %d values, %d: %d below", lg_k, (int)n, d + 1, below);
+        CHECK(n <= 100 || is_normal(above, d), "lg_k %u, %d values, %d: %d above", lg_k, (int)n, d + 1, above);
+    }
+}
+
+/* Random streams, the same at each run. Up to 100 values bounds miss at most as often as those of a normal distribution; above, they
+ * miss as often on each side. bench/estimates.py makes a larger trial. */
+static void test_missed(void)
+{
+    static const struct {
+        unsigned lg_k;
+        size_t n;
+    } rows[] = {{4, 8},   {4, 11},   {4, 24},  {4, 64},  {5, 9},   {5, 12},  {5, 32},   {6, 5},    {6, 12},
+                {6, 20},  {7, 9},    {7, 16},  {7, 32},  {8, 3},   {8, 28},  {8, 48},   {4, 128},  {4, 1000},
+                {5, 150}, {5, 1000}, {6, 150}, {6, 500}, {7, 200}, {8, 300}, {8, 3000}, {10, 1000}};
+    size_t i;
+    for (i = 0; i < sizeof rows / sizeof rows[0]; i++) {
+        struct missed missed = run_streams(rows[i].lg_k, rows[i].n, i << 32);
+        check_missed(rows[i].lg_k, rows[i].n, &missed);
+    }
+}
+
 /* Where the estimate is not Ertl's: of one register above 0 it is the number of such registers, and of few registers it is divided
  * by 1 + e / m. The values were computed with 60 digits. */
 static void test_corrected(void)
@@ -143,7 +293,7 @@ struct precision {
 };
 
 /* What sums in another order may differ by; and what docs/NUMBERS.md says of estimates from registers, which are doubles
- * beside. Bounds are made of these, and are at most eleven times as far off. */
+ * beside. Bounds are made of these, and are at most twice as far off. */
 static const struct precision of_coupons = {1e-13, 0.0}, of_registers = {0x1p-40 + 0x1p-53, 0x1p-32};
 
 static int is_same(double is, double wanted, const struct precision *precision, double times)
@@ -162,9 +312,9 @@ static void check_numbers(const bytes *image, const struct numbers *wanted, cons
     CHECK(is_same(found.relative_standard_error, wanted->error, precision, 1), "%s %d: %.17g", what, (int)row,
           found.relative_standard_error);
     for (d = 0; d < 3; d++) {
-        CHECK(is_same(found.lower[d], wanted->lower[d], precision, 11), "%s %d: %.17g below", what, (int)row,
+        CHECK(is_same(found.lower[d], wanted->lower[d], precision, 2), "%s %d: %.17g below", what, (int)row,
               found.lower[d]);
-        CHECK(is_same(found.upper[d], wanted->upper[d], precision, 11), "%s %d: %.17g above", what, (int)row,
+        CHECK(is_same(found.upper[d], wanted->upper[d], precision, 2), "%s %d: %.17g above", what, (int)row,
               found.upper[d]);
     }
 }
@@ -362,6 +512,8 @@ int main(int argc, char **argv)
     test_streams();
     test_other_histograms();
     test_corrected();
+    test_bounds();
+    test_missed();
     test_many_coupons();
     test_steps((uint32_t)stride);
     test_widths();

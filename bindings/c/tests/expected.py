@@ -19,6 +19,7 @@ HISTOGRAMS = [
     (4, {0: 16}),
     (4, {0: 15, 1: 1}),
     (4, {0: 8, 1: 4, 2: 3, 5: 1}),
+    (4, {0: 5, 1: 6, 2: 3, 4: 2}),
     (4, {0: 1, 1: 10, 3: 5}),
     (4, {1: 16}),
     (4, {3: 6, 4: 6, 7: 4}),
@@ -70,10 +71,15 @@ def estimate_of(counts, m):
     return m * m / (2 * LN2 * z * (1 + e / m)) if counts.get(63) != m else None
 
 
+def few_of(n, m):
+    return 1 / (1 + n / m / 4) if n is not None else Decimal(0)
+
+
 def error_of(n, m):
     limit = (3 * LN2 - 1) * (1 + 2 / m)
-    few = 1 / (1 + n / (16 * m)) ** 4 if n is not None else 0
-    return ((limit - (limit - HALF) * few) / m).sqrt()
+    few = few_of(n, m)
+    part = few * (Decimal("0.19") + few * (Decimal("1.84") - Decimal("1.03") * few))
+    return ((limit - (limit - HALF) * part) / m).sqrt()
 
 
 def expected_coupons(n):
@@ -96,22 +102,35 @@ def values_of(coupons):
 # ---- the rows
 
 
-def told(n, error, least):
-    """The estimate from registers, its error, and the bounds at 1, 2 and 3 deviations."""
-    if n is None:
-        return [None, error, *3 * [None], *3 * [None]]
-    n = max(n, Decimal(least))
-    lower = [max(n / (1 + d * error), Decimal(least)) for d in (1, 2, 3)]
-    return [n, error, *lower, *(n / (1 - d * error) for d in (1, 2, 3))]
+def half_step(seen, m):
+    """By how much bounds move outwards."""
+    blur = seen**5 / m**4
+    return min(ONE, (3 - blur) / 2) * m / (m - seen) / 2 if blur < 3 else Decimal(0)
+
+
+def bounds_of(n, seen, m):
+    """The lower bounds at 1, 2 and 3 deviations, and the upper ones."""
+    few = few_of(n, m)
+    root = error_of(n, m) / 3 * (1 - Decimal("0.74") * (1 - few) / m)
+    middle = 1 + (Decimal("0.226") + few**2 * (Decimal("0.15") - Decimal("0.36") * few**2)) / m
+    skew = 1 / (18 * n) + Decimal("0.01") / m
+    step = half_step(seen, m)
+    low = [middle + (d * d - 1) * min(skew, root / 6) - d * root for d in (1, 2, 3)]
+    high = [middle + (d * d - 1) * skew + d * root for d in (1, 2, 3)]
+    return [max(n * x**3 - step, seen) for x in low] + [n * x**3 + step for x in high]
 
 
 def of_histogram(lg_k, counts):
     m = Decimal(2) ** lg_k
+    seen = m - counts.get(0, 0)
     assert sum(counts.values()) == m
-    if counts.get(0) == m:
-        return told(Decimal(0), Decimal(0), 0)
+    if not seen:
+        return 8 * [Decimal(0)]
     n = estimate_of(counts, m)
-    return told(n, error_of(n, m), m - counts.get(0, 0))
+    if n is None:
+        return [None, error_of(n, m), *6 * [None]]
+    n = max(n, seen)
+    return [n, error_of(n, m), *bounds_of(n, seen, m)]
 
 
 def share_of_more(deviations):
@@ -158,7 +177,7 @@ def row(front, numbers):
 
 
 def text():
-    lines = ["/* SPDX-License-Identifier: Apache-2.0 */", "/* Printed by expected.py. */", ""]
+    lines = ["/* SPDX-License-Identifier: Apache-2.0 */", "/* Printed by expected.py. */", "/* clang-format off */", ""]
     lines.append("static const struct histogram_row histogram_rows[] = {")
     for lg_k, counts in HISTOGRAMS:
         runs = ", ".join(f"{{{value}, {count}}}" for value, count in counts.items())

@@ -110,6 +110,32 @@ test_jumps() {
     done
 }
 
+# Prints the instructions of an object that multiply and add with one rounding.
+fused_in() {
+    objdump -d --no-show-raw-insn "$1" | grep -E '[[:space:]]v?fn?m(add|sub|la|ls)'
+}
+
+# Whether a compiler can fuse a product with a sum, and doesn't do so in estimate.c.
+fuses_nothing() {
+    echo 'double sum(double a, double b, double c) { return a * b + c; }' >"$tests/sum.c"
+    "$@" -O2 -ffp-contract=fast -c -o "$tests/sum.o" "$tests/sum.c" && fused_in "$tests/sum.o" &&
+        "$@" -O2 -c -o "$tests/fused.o" estimate.c && ! fused_in "$tests/fused.o"
+}
+
+# Bounds have the same bits on every processor, whatever a compiler does by default.
+test_fused() {
+    case $(uname -m) in
+    x86_64) flag=-mfma ;;
+    aarch64) flag=-O2 ;;
+    *)
+        skip 'no fused operations' 'only fused operations of x86-64 and 64-bit ARM are known here'
+        return
+        ;;
+    esac
+    expect 'no fused operations' fuses_nothing $CC $flag
+    ! has clang || expect 'no fused operations by clang' fuses_nothing clang $flag
+}
+
 # The numbers that estimates are compared with are those of a computation in Python.
 test_expected() {
     if has python3; then
@@ -591,6 +617,7 @@ else
     test_header
     test_names
     test_jumps
+    test_fused
     test_expected
     test_calls
     test_both

@@ -4,28 +4,21 @@
 
     bindings/javascript/page/build.py OUT.html
 """
-import base64
 import pathlib
-import re
 import subprocess
 import sys
 
 HERE = pathlib.Path(__file__).resolve().parent
 ROOT = HERE.parent.parent.parent
 MODULE = ROOT / "prebuilt" / "wasm" / "hll.wasm"
+sys.dont_write_bytecode = True
+sys.path.insert(0, str(HERE.parent))
+from inline import filled  # noqa: E402
 
 
-def page(module):
-    """Returns the page with this module."""
-    parts = {"CORE": (HERE.parent / "core.mjs").read_text(), "STUDY": (HERE / "study.mjs").read_text(),
-             "WASM": base64.b64encode(module).decode(), "PAGE": (HERE / "page.mjs").read_text()}
-    text = (HERE / "page.html").read_text()
-    for name, part in parts.items():
-        part = re.sub(r"(?m)^export (?=(?:const|class|function) )", "", part)
-        if "</script" in part or text.count("/*%s*/" % name) != 1:
-            raise ValueError("the page can't have %s" % name)
-        text = text.replace("/*%s*/" % name, part)
-    return text
+def page():
+    """Returns the page."""
+    return filled(HERE / "page.html", {"CORE": HERE.parent / "core.mjs", "STUDY": HERE / "study.mjs", "WASM": MODULE, "PAGE": HERE / "page.mjs"})
 
 
 def main():
@@ -35,7 +28,7 @@ def main():
             sys.exit("page: prebuilt/ is %s (%s); make it again first (prebuilt/README.md)" % (said, word))
     out = pathlib.Path(sys.argv[1])
     out.parent.mkdir(parents=True, exist_ok=True)
-    out.write_text(page(MODULE.read_bytes()))
+    out.write_text(page())
 
 
 if __name__ == "__main__":

@@ -3,7 +3,7 @@
 import { readFileSync } from "node:fs";
 import { pathToFileURL } from "node:url";
 
-const { Real, Sketch, Union, couponOf, fault, headOf, sizeOf } = await import(pathToFileURL(process.argv[2] + "/hll.mjs").href);
+const { Real, Sketch, Union, couponOf, fault, headOf, sizeOf } = await import(pathToFileURL(process.argv[2] + "/node.mjs").href);
 
 const bytesOf = (digits) => Uint8Array.from(Buffer.from(digits, "hex"));
 const hexOf = (bytes) => Buffer.from(bytes).toString("hex");

@@ -3,10 +3,12 @@
 import assert from "node:assert/strict";
 import fs from "node:fs";
 import test from "node:test";
-import { HllError, MESSAGES, REASONS, Real, Registers, Sketch, TrapError, Union, agree, couponOf, fault, headOf, histogramOf, hipOf, infoOf, isSmall, load, sizeOf, version } from "../build/hll-sketches/hll.mjs";
+import { runInNewContext } from "node:vm";
 import { make } from "../build/hll-sketches/core.mjs";
+import { HllError, MESSAGES, REASONS, Real, TrapError, load } from "../build/hll-sketches/load.mjs";
 const expected = JSON.parse(fs.readFileSync(process.argv[2]));
 const wasm = fs.readFileSync(new URL("../build/hll-sketches/hll.wasm", import.meta.url));
+const { Registers, Sketch, Union, agree, couponOf, fault, headOf, histogramOf, hipOf, infoOf, isSmall, sizeOf, version } = await load(wasm);
 const hex = (bytes) => Buffer.from(bytes).toString("hex"), of = (text) => new Uint8Array(Buffer.from(text, "hex"));
 const one = (value) => hex(new Sketch(12).add(value).toBytes());
 const rejects = (reason) => (why) => why instanceof HllError && why.reason === reason;
@@ -75,6 +77,16 @@ test("unions", () => {
     assert.deepEqual(widths(...parts), [width, 6]);
     assert.deepEqual(widths(...parts.map((it) => it.toBytes())), [width, 6]);
   }
+});
+
+test("a union to which nothing was added is an empty sketch of lg_k 12", () => {
+  const none = new Union(), empty = new Sketch().toBytes();
+  assert.deepEqual([none.lgK, none.width, none.isEmpty, none.estimate(), none.toBytes(), none.toSketch().lgK], [12, 8, true, 0, empty, 12]);
+  assert.deepEqual([new Union(9).lgK, new Union({ lgMaxK: 14 }).lgK, new Union({ width: 4 }).toBytes()], [9, 14, new Sketch(12, 4).toBytes()]);
+  assert.throws(() => none.add(of("0201080a030c0008")), rejects("family"));
+  assert.deepEqual([none.lgK, none.toBytes()], [12, empty]);
+  for (const other of [none, new Union().add(none), none.toBytes()]) assert.equal(new Union().add(other).lgK, 12);
+  assert.equal(none.add(none).add(new Sketch(10).addMany(["ann", "bob"])).lgK, 10);
 });
 
 test("images", () => {
@@ -303,6 +315,7 @@ test("an empty image that is read, and values after it", () => {
   assert.deepEqual([s.lgK, s.width, s.isEmpty], [9, 6, false]);
   assert.equal(hex(s.toBytes()), hex(new Sketch(9, 6).add("ann").toBytes()));
   assert.equal(new Union().add(empty).lgK, 9);
+  assert.equal(new Sketch(9).merge(new Sketch(9)).lgK, 9);
 });
 
 test("heads, of whole images and of their first bytes", () => {
@@ -356,9 +369,29 @@ test("after a trap the module is not used any more, and another one is", async (
   for (const call of [() => s.estimate(), () => s.add("bob"), () => s.toBytes(), () => new own.Sketch(12), () => own.couponOf("ann"), () => new own.Registers(4).estimate()])
     assert.throws(call, TrapError);
   s.free();
-  const other = await load();
+  const other = await load(wasm);
   assert.equal(new other.Sketch(12).add("ann").estimate(), 1);
   assert.equal(new Sketch(12).add("ann").estimate(), 1);
+});
+
+test("sources of the module", async () => {
+  const module = new WebAssembly.Module(wasm), answer = () => new Response(wasm), elsewhere = runInNewContext("new WebAssembly.Module(wasm)", { wasm });
+  for (const source of [wasm, new Uint8Array(wasm).buffer, new DataView(new Uint8Array(wasm).buffer), module, elsewhere, answer(), Promise.resolve(answer()), Promise.resolve(module), new Blob([wasm])]) {
+    const own = await load(source);
+    assert.equal(hex(new own.Sketch().add("ann").toBytes()), one("ann"));
+  }
+  for (const bad of ["hll.wasm", new URL("file:///hll.wasm"), 7, {}, null, undefined])
+    await assert.rejects(load(bad), new TypeError("load() takes the bytes of hll.wasm, a WebAssembly.Module or a Response, as in load(fetch(url))"));
+  await assert.rejects(load(new Response("none", { status: 404 })), /^Error: hll\.wasm can't be loaded: .* has the status 404$/);
+  await assert.rejects(load(new Response("<!doctype html>")), /^Error: what load\(\) was given is not hll\.wasm, or this engine can't compile it: .*magic/);
+  await assert.rejects(load(new Error("the network")), TypeError);
+  await assert.rejects(load(Promise.reject(new Error("the network"))), new Error("the network"));
+});
+
+test("a module of another version, and one that is another", async () => {
+  const { instance } = await WebAssembly.instantiate(wasm), other = { ...instance.exports, hll_version: () => 1002003 };
+  assert.throws(() => make(other), new Error("the module is hll.wasm 1.2.3; copy hll.wasm of the package hll-sketches 0.2.0"));
+  await assert.rejects(load(of("0061736d01000000")), new Error("the module is not hll.wasm; copy hll.wasm of the package hll-sketches 0.2.0"));
 });
 
 test("an allocation that fails leaves a sketch as it was", async () => {

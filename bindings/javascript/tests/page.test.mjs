@@ -2,66 +2,21 @@
 // Opens the page in headless Chromium from file://, without a network, and uses it: page.test.mjs PAGE.html DIRECTORY [open]
 // DIRECTORY gets screenshots at 1280 and 400 pixels. With `open` the page is only opened, to see that it asks for nothing.
 import assert from "node:assert/strict";
-import { spawn } from "node:child_process";
 import fs from "node:fs";
 import path from "node:path";
 import { pathToFileURL } from "node:url";
-import { Sketch, Union } from "../build/hll-sketches/hll.mjs";
+import { Sketch, Union } from "../build/hll-sketches/node.mjs";
+import { open, sleep } from "./chromium.mjs";
 
 const [, , page, out, only] = process.argv, directory = path.resolve(out);
-fs.mkdirSync(directory, { recursive: true });
-const profile = fs.mkdtempSync(path.join(directory, "profile-"));
-const browser = spawn("chromium", ["--headless=new", "--no-sandbox", "--disable-gpu", "--remote-debugging-pipe", `--user-data-dir=${profile}`, "about:blank"],
-  { stdio: ["ignore", "ignore", "ignore", "pipe", "pipe"], detached: true });
-
-// ---- Chromium's protocol, over its pipe: messages end with a byte 0
-
-const requests = [], logs = [], waiting = new Map();
-let next = 0, rest = "";
-browser.stdio[4].setEncoding("utf8").on("data", (text) => {
-  const messages = (rest + text).split("\0");
-  rest = messages.pop();
-  for (const message of messages.map((it) => JSON.parse(it))) {
-    const { id, method, params, error, result } = message;
-    if (id) {
-      const { done, fail } = waiting.get(id);
-      waiting.delete(id);
-      if (error) fail(new Error(JSON.stringify(error)));
-      else done(result);
-    }
-    if (method === "Network.requestWillBeSent") requests.push(params.request.url.slice(0, 100));
-    if (method === "Runtime.exceptionThrown") logs.push(JSON.stringify(params.exceptionDetails).slice(0, 600));
-    if (method === "Log.entryAdded") logs.push(params.entry.text);
-  }
-});
-const send = (method, params = {}, sessionId = undefined) => new Promise((done, fail) => {
-  waiting.set(++next, { done, fail });
-  browser.stdio[3].write(JSON.stringify({ id: next, method, params, sessionId }) + "\0");
-});
-const sleep = (ms) => new Promise((done) => setTimeout(done, ms));
+const { call, js, wait, requests, logs, close, product } = await open(directory);
 
 let passed = 0;
 const ok = (holds, what) => { assert.ok(holds, what); passed++; };
 const same = (found, wanted, what) => { assert.deepEqual(found, wanted, what); passed++; };
 
 async function main() {
-  const { targetId } = await send("Target.createTarget", { url: "about:blank" });
-  const { sessionId } = await send("Target.attachToTarget", { targetId, flatten: true });
-  const call = (method, params) => send(method, params, sessionId);
-  for (const domain of ["Page", "Runtime", "Network", "Log", "DOM"]) await call(domain + ".enable");
   await call("Network.emulateNetworkConditions", { offline: true, latency: 0, downloadThroughput: -1, uploadThroughput: -1 });
-  const js = async (expression) => {
-    const { exceptionDetails, result } = await call("Runtime.evaluate", { expression, awaitPromise: true, returnByValue: true });
-    if (exceptionDetails) throw new Error(JSON.stringify(exceptionDetails));
-    return result.value;
-  };
-  const wait = async (what) => {
-    for (let i = 0; i < 400; i++) {
-      if (await js(what)) return;
-      await sleep(50);
-    }
-    throw new Error(`${what} ${logs} ${await js("document.body.innerText.slice(0, 3000)")}`);
-  };
   const size = (width, height) => call("Emulation.setDeviceMetricsOverride", { width, height, deviceScaleFactor: 1, mobile: width < 500 });
   const dark = (is) => call("Emulation.setEmulatedMedia", { features: [{ name: "prefers-color-scheme", value: is ? "dark" : "light" }] });
   const shot = async (name) => { fs.writeFileSync(path.join(directory, name), Buffer.from((await call("Page.captureScreenshot", { captureBeyondViewport: true, format: "png" })).data, "base64")); };
@@ -253,16 +208,13 @@ async function main() {
 
 try {
   await main();
-  console.log((await send("Browser.getVersion")).product);
+  console.log(product);
   console.log(`${passed} passed, 0 failed`);
 } catch (why) {
   console.log(String(why.stack), logs, requests);
   console.log(`${passed} passed, 1 failed`);
   process.exitCode = 1;
 } finally {
-  await Promise.race([send("Browser.close").catch(() => {}), sleep(3000)]);
-  await sleep(200);
-  try { process.kill(-browser.pid, "SIGKILL"); } catch { /* it has ended */ }
-  fs.rmSync(profile, { recursive: true, force: true, maxRetries: 5 });
+  await close();
 }
 process.exit();

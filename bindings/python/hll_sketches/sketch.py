@@ -574,8 +574,8 @@ class Sketch:
         Parameters
         ----------
         deviations : int
-            1, 2 or 3 standard deviations. The number of values is between the bounds for about 68,
-            95 or 99.7 of 100 sketches.
+            1, 2 or 3 standard deviations. The number of values is between the bounds for at least
+            about 68, 95 or 99.7 of 100 sketches (docs/NUMBERS.md, "Estimates").
 
         Raises
         ------

@@ -3,35 +3,16 @@
 import math
 import random
 import struct
+import sys
 import unittest
-from decimal import Decimal, localcontext
+from decimal import Decimal
 
-import common  # noqa: F401, for the path
+import common
 from hll_sketches import Sketch
 from plain_images import image_of
 
-
-def sigma(x):
-    return x + sum(x ** (2**i) * Decimal(2) ** (i - 1) for i in range(1, 30))
-
-
-def exact_estimate(counts):
-    """The estimate of a histogram, to about 50 digits."""
-    m = Decimal(sum(counts))
-    with localcontext() as context:
-        context.prec = 60
-        zeros = counts[0] / m
-        z = m * sigma(zeros) + sum(counts[v] / Decimal(2) ** v for v in range(1, 64))
-        return m * m / (2 * Decimal(2).ln() * z * (1 + (Decimal("0.5") + Decimal("0.58") * (1 - zeros) ** 2) / m))
-
-
-def of_registers(counts):
-    """The estimate and the relative standard error of a histogram."""
-    m = sum(counts)
-    estimate = float(exact_estimate(counts))
-    limit = (3 * math.log(2) - 1) * (1 + 2 / m)
-    s = limit - (limit - 0.5) / (1 + estimate / (16 * m)) ** 4
-    return estimate, math.sqrt(s / m)
+sys.path.append(str(common.ROOT / "bindings" / "c" / "tests"))
+import expected  # noqa: E402, the formulas for registers in decimal numbers
 
 
 def expected_coupons(values):
@@ -67,16 +48,16 @@ class EstimatesTest(unittest.TestCase):
         self.assertAlmostEqual(sketch.estimate() / estimate, 1, 9)
         self.assertAlmostEqual(sketch.relative_standard_error() / error, 1, 9)
 
-    def check_bounds(self, sketch, estimate, error, least):
-        self.check_estimate(sketch, max(estimate, least), error)
+    def check_registers(self, sketch, counts):
+        """The estimate, its error and its bounds are those of the formulas."""
+        wanted = expected.of_histogram(sketch.lg_k, dict(enumerate(counts)))
+        self.check_estimate(sketch, float(wanted[0]), float(wanted[1]))
         for d in (1, 2, 3):
-            lower, upper = sketch.bounds(d)
-            self.assertAlmostEqual(lower / max(least, sketch.estimate() / (1 + d * error)), 1, 9)
-            self.assertAlmostEqual(upper / (sketch.estimate() / (1 - d * error)), 1, 9)
+            for found, bound in zip(sketch.bounds(d), (wanted[1 + d], wanted[4 + d])):
+                self.assertAlmostEqual(found / float(bound), 1, 9)
 
-    def check_nearest(self, estimate, exact, least):
+    def check_nearest(self, estimate, exact):
         """As near as docs/NUMBERS.md promises, and rounded to a double."""
-        exact = max(exact, Decimal(least))
         self.assertLessEqual(abs(Decimal(estimate) - exact), exact * (Decimal(2) ** -40 + Decimal(2) ** -53) + Decimal(2) ** -32)
 
     def test_registers(self):
@@ -90,9 +71,9 @@ class EstimatesTest(unittest.TestCase):
             sketch = Sketch.from_bytes(image_of(lg_k, source.choice((4, 6, 8)), registers))
             counts = [registers.count(value) for value in range(64)]
             self.assertEqual(sketch.histogram(), counts)
-            self.check_nearest(sketch.estimate(), exact_estimate(counts), len(registers) - counts[0])
-            estimate, error = of_registers(counts)
-            self.check_bounds(sketch, estimate, error, len(registers) - counts[0])
+            exact = expected.estimate_of(dict(enumerate(counts)), Decimal(2**lg_k))
+            self.check_nearest(sketch.estimate(), max(exact, Decimal(2**lg_k - counts[0])))
+            self.check_registers(sketch, counts)
 
     def test_raised_registers(self):
         """No register that is raised lowers the estimate."""

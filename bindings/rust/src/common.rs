@@ -5,7 +5,8 @@
 
 /// The number of standard deviations between an estimate and its bounds.
 ///
-/// The number of distinct values is between the bounds in about 68, 95 and 99.7 of 100 cases.
+/// The number of distinct values is between the bounds in at least about 68, 95 and 99.7 of 100 cases (docs/NUMBERS.md,
+/// "Estimates").
 #[derive(Debug, Clone, Copy, PartialEq, Eq)]
 pub enum NumStdDev {
     /// One standard deviation.

@@ -1,6 +1,7 @@
 -- SPDX-License-Identifier: Apache-2.0
 -- Lemmas on what calls return and write.
-use Rattle.std.proofs.Common.{◌≡◌, ℕ, List, Result, Ok, Err, refl, subst, sym, ap, ◌∙◌}
+use Rattle.std.proofs.Common.{◌≡◌, ◌↔◌, Bool, true, false, ℕ, List, Result, Ok, Err, refl, subst, sym, ap, ◌∙◌}
+use Rattle.std.specs.Bool.{IsTrue}
 use Rattle.std.specs.Result.{MatchResult, IfOk, IfErr}
 use Rattle.hll_base.specs.Reason.{number_of}
 use Rattle.hll_base.specs.declared.error.Reason.{Reason}
@@ -12,6 +13,10 @@ use Rattle.hll_sketch.specs.EstimatorFields.{SetsFields, SetsFieldsIn, HasCleare
 use Rattle.hll_sketch.specs.Layout.{SketchLayout, sketch_of}
 use Rattle.hll_sketch.specs.Value.{Sketch}
 use Rattle.hll_c.specs.Answers.{Answers, IsImageOf, WithFields, PutsBytes, wrote, too_small, refused, Reports, reported, untold, Tests, passed, failed, ok_code}
+
+-- what is tested and does not hold
+pub not_so : (b : Bool) (W : Type 0) → b ≡ false → (IsTrue b ↔ W) → W → ⊥
+not_so b W fails is w = absurd (let same : true ≡ false = sym (is.1 w) ∙ fails in cc)
 
 -- what two clauses say of an error
 pub IfErr-both : {T E : Type 0} (r : Result T E) (P Q : E → Type 0) → IfErr r P → IfErr r Q → IfErr r (λ e. P e × Q e)

@@ -165,9 +165,9 @@ module _ (k : ℕ) (width : HllType) where
 pub both_are_read : (k : ℕ) (left right : List ℕ) → AreBothRead k left right → AreAllRead (left ∷ right ∷ [])
 both_are_read k left right both = (both.left_sketch ∷ both.right_sketch ∷ [], (both.left_read, (both.right_read, tt)))
 
-pub values_in_bytes : (values ends image bytes : List ℕ) → AreEnds (length values) ends → IsImageWith (map coupon_of_bytes (strings values ends)) image bytes
-    → IsImageOf (WithFields (IsMadeOf image (HasValues values ends))) bytes
-values_in_bytes values ends image bytes are at =
+pub values_in_bytes : (AreStrings : Type 0) (strings : List (List ℕ)) (image bytes : List ℕ) → AreStrings → IsImageWith (map coupon_of_bytes strings) image bytes
+    → IsImageOf (WithFields (IsMadeOf image (HasValues AreStrings strings))) bytes
+values_in_bytes AreStrings strings image bytes are at =
     (_, (_, record { sketch = at.sketch; read = at.read; is_made = record { are = are; is = refl } }, coupons_stay _ at.in_table), at.written)
 
 pub coupon_in_bytes : (slot value c : ℕ) (image bytes : List ℕ) → AreOfCoupon slot value → c ≡ pair slot value → IsImageWith (c ∷ []) image bytes
@@ -183,9 +183,9 @@ coupon_in_bytes slot value c image bytes are is at = (
 )
 
 -- the same, of registers that hold all coupons
-pub values_in_registers : (values ends image bytes : List ℕ) → AreEnds (length values) ends → IsFilledImageWith (map coupon_of_bytes (strings values ends)) image bytes
-    → IsImageOf (WithFields (IsMadeOf image (HasValues values ends))) bytes
-values_in_registers values ends image bytes are at =
+pub values_in_registers : (AreStrings : Type 0) (strings : List (List ℕ)) (image bytes : List ℕ) → AreStrings → IsFilledImageWith (map coupon_of_bytes strings) image bytes
+    → IsImageOf (WithFields (IsMadeOf image (HasValues AreStrings strings))) bytes
+values_in_registers AreStrings strings image bytes are at =
     (at.filled, (_, record { sketch = at.sketch; read = at.read; is_made = record { are = are; is = refl } }, at.fills), at.written)
 
 pub coupon_in_registers : (slot value c : ℕ) (image bytes : List ℕ) → AreOfCoupon slot value → c ≡ pair slot value → IsFilledImageWith (c ∷ []) image bytes

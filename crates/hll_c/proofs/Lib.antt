@@ -2,16 +2,15 @@
 mod Agreement
 pub mod AtBound
 pub mod Answers
-pub mod Batches
 pub mod Codes
 pub mod Counts
+pub mod CouponsInTurn
 pub mod GrowingUnions
 pub mod Histograms
 pub mod Images
-pub mod MaxValues
 pub mod Powers
 pub mod States
-pub mod Strings
+pub mod StringsByNumber
 pub mod Unions
 pub mod Whole
 pub mod Widths

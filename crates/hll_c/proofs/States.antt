@@ -1,16 +1,15 @@
 -- SPDX-License-Identifier: Apache-2.0
 -- Lemmas on states.
-use Rattle.std.proofs.Common.{◌≡◌, ◌≢◌, ℕ, ◌+◌, ◌-◌, ◌<◌, ◌≤◌, List, [], ◌∷◌, length, take, drop, get_or, map, refl, sym, ap, subst, ◌∙◌, arith, true, false, not, nat_eq, Option, Some, None, inl, inr}
+use Rattle.std.proofs.Common.{◌≡◌, ◌≢◌, ℕ, ◌+◌, ◌-◌, ◌<◌, ◌≤◌, List, [], ◌∷◌, length, drop, get_or, refl, sym, ap, subst, ◌∙◌, arith, true, false, not, nat_eq, Option, Some, None, inl, inr}
 use borrow.Rule.Slice.PartMut.{mid_of, put_mid}
 use Rattle.std.specs.FinSet.{len}
 use Rattle.std.proofs.lemmas.Bool.{cases_Bool}
-use Rattle.std.proofs.lemmas.List.{drop_more, drop_all, length-map}
+use Rattle.std.proofs.lemmas.List.{drop_more, drop_all}
 use Rattle.hll_base.specs.Reason.{number_of}
 use Rattle.hll_base.specs.declared.error.Reason.{Reason}
 use Rattle.hll_base.specs.declared.error.Reason.TheVariants.{Argument, Memory, Register}
 use Rattle.hll_base.specs.declared.hll_type.HllType.{HllType}
 use Rattle.hll_coupons.specs.Coupons.{coupon_bytes, IsAscending}
-use Rattle.hll_coupons.specs.Hashed.{coupon_of_bytes}
 use Rattle.hll_coupons.specs.Pair.{Pairs, set_of}
 use Rattle.hll_sketch.specs.Adding.{add}
 use Rattle.hll_sketch.specs.Laws.{add_in_turn}
@@ -29,13 +28,11 @@ use Rattle.hll_state.proofs.Rooms.{staged_table, room_fewer}
 use Rattle.hll_state.proofs.States.{means, read_at, rest_borrowed, rest_written}
 use Rattle.hll_state.proofs.Tables.{content-taken, content-staged}
 use Rattle.hll_c.specs.Answers.{IsImageOf, WithFields}
-use Rattle.hll_c.specs.Batches.{AreEndsFrom, strings}
 use Rattle.hll_c.specs.Calls.{bits_of}
 use Rattle.hll_c.specs.Estimates.{IsEstimateOfCoupons, IsEstimateOfContent}
 use Rattle.hll_c.specs.States.{IsBoundFor, least_bound, Joins, IsOfState, SaysEstimateOfState, RefusesState, state_argument, state_register, state_memory}
 use Rattle.hll_c.specs.declared.estimate.HllEstimate.{HllEstimate}
 use Rattle.hll_c.proofs.Answers.{made_with_fields}
-use Rattle.hll_c.proofs.Batches.{ends_here, strings_here, strings_end, coupons_from, length-strings}
 
 -- the coupons from an index on are left to be added
 pub record AddsLeft (first : Header) (first_body : List (List ℕ)) (h : Header) (body : List (List ℕ)) (cs : List ℕ) (i : ℕ) : Type 0 where
@@ -70,37 +67,6 @@ pushed first first_body h g body new cs i d c inside is left size within room ma
 pub all_pushed : (first : Header) (first_body : List (List ℕ)) (h : Header) (body : List (List ℕ)) (cs : List ℕ) (i : ℕ) → length cs ≤ i → AddsLeft first first_body h body cs i
     → sketch_in h body ≡ add_in_turn (sketch_in first first_body) cs
 all_pushed first first_body h body cs i all left = sym (ap (add_in_turn (sketch_in h body)) (drop_all i cs all)) ∙ left.same
-
--- the byte strings from an index on are left to be added, of which the first begins at `start`
-pub record AddsStrings (first : Header) (first_body : List (List ℕ)) (h : Header) (body : List (List ℕ)) (values ends : List ℕ) (start i : ℕ) : Type 0 where
-  pub are : AreEndsFrom start (length values) (drop i ends)
-  pub within : IsWithin h (length body)
-  pub room : HasRoom h (length ends - i) (length body)
-  pub widths : h.widths ≡ first.widths
-  pub takes : (n len : ℕ) → HasRoom first (n + i) len → HasRoom h n len
-  pub same : add_in_turn (sketch_in h body) (coupons_from start values (drop i ends)) ≡ add_in_turn (sketch_in first first_body) (coupons_from 0 values ends)
-
-pub string_pushed : (first : Header) (first_body : List (List ℕ)) (h g : Header) (body new : List (List ℕ)) (values ends : List ℕ) (start i d c : ℕ) → i < length ends
-    → coupon_of_bytes (take (get_or ends i d - start) (drop start values)) ≡ c
-    → AddsStrings first first_body h body values ends start i → length new ≡ length body → IsWithin g (length body) → ((n len : ℕ) → HasRoom h (n + 1) len → HasRoom g n len)
-    → sketch_in g new ≡ add (sketch_in h body) (set_of (c ∷ [])) → g.widths ≡ h.widths → AddsStrings first first_body g new values ends (get_or ends i d) (i + 1)
-string_pushed first first_body h g body new values ends start i d c inside is left size within room made widths = record {
-  widths = widths ∙ left.widths;
-  takes = λ n len enough. room n len (left.takes (n + 1) len (one_later first n i len enough));
-  are = (ends_here (length values) ends i d inside start left.are).2;
-  within = subst (IsWithin g) (sym size) within;
-  room = subst (HasRoom g (length ends - (i + 1))) (sym size) (room (length ends - (i + 1)) (length body) (room_for_one h (length ends) i (length body) inside left.room));
-  same = ap (λ x. add_in_turn x (coupons_from (get_or ends i d) values (drop (i + 1) ends))) (made ∙ ap (λ c. add (sketch_in h body) (set_of (c ∷ []))) (sym is))
-      ∙ sym (ap (λ xs. add_in_turn (sketch_in h body) (map coupon_of_bytes xs)) (strings_here start values ends i d inside)) ∙ left.same;
-}
-
-pub all_strings_pushed : (first : Header) (first_body : List (List ℕ)) (h : Header) (body : List (List ℕ)) (values ends : List ℕ) (start i : ℕ) → length ends ≤ i
-    → AddsStrings first first_body h body values ends start i → sketch_in h body ≡ add_in_turn (sketch_in first first_body) (coupons_from 0 values ends)
-all_strings_pushed first first_body h body values ends start i all left =
-    sym (ap (λ xs. add_in_turn (sketch_in h body) (map coupon_of_bytes xs)) (strings_end start values ends i all)) ∙ left.same
-
-pub length-coupons : (values ends : List ℕ) → length (map coupon_of_bytes (strings values ends)) ≡ length ends
-length-coupons values ends = length-map (strings values ends) coupon_of_bytes ∙ length-strings (length values) values 0 ends
 
 -- ---- merging
 

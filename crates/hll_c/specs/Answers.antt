@@ -1,6 +1,6 @@
 -- SPDX-License-Identifier: Apache-2.0
 -- What calls over images return and write (docs/MODEL.md, "Calls over images").
-use Rattle.std.specs.Prelude.{◌≡◌, ℕ, ◌≤◌, ◌<◌, List, ◌++◌, length, drop, Some, None}
+use Rattle.std.specs.Prelude.{◌≡◌, ℕ, ◌≤◌, ◌<◌, List, [], ◌∷◌, ◌++◌, length, drop, Some, None}
 use Rattle.hll_base.specs.Reason.{number_of}
 use Rattle.hll_base.specs.declared.error.Reason.{Reason}
 use Rattle.hll_base.specs.declared.error.Reason.TheVariants.{Argument, Memory}
@@ -8,6 +8,8 @@ use Rattle.hll_images.specs.RegisterImages.{IsPlainImage}
 use Rattle.hll_sketch.specs.ByteRegisters.{ReadNeedsMemory}
 use Rattle.hll_sketch.specs.Checks.{first_fault, size_fault}
 use Rattle.hll_sketch.specs.EstimatorFields.{FillsFields}
+use Rattle.hll_sketch.specs.Image.{lg_k_byte, width_bits}
+use Rattle.hll_sketch.specs.MergedIn.{HasPlainRegisters}
 use Rattle.hll_sketch.specs.Value.{Sketch}
 use Rattle.hll_sketch.specs.Written.{Written}
 use Rattle.hll_c.specs.Batches.{IsFirstFaulty, MayAskAt}
@@ -91,3 +93,14 @@ pub data RefusesImages (InRange : Type 0) (images : List (List ℕ)) (failed_old
   argument_with_images : (InRange → ⊥) → failed_new ≡ failed_old → RefusesImages InRange images failed_old failed_new Argument
   images_fault : {r : Reason} → InRange → IsFirstFaulty images failed_new r → RefusesImages InRange images failed_old failed_new r
   images_memory : (n : ℕ) → InRange → MayAskAt images n → failed_new ≡ failed_old → RefusesImages InRange images failed_old failed_new Memory
+
+-- two images of registers, with the same lg_k and width; if they are 4-bit registers, without exceptions
+pub record ArePlainAlike (left right : List ℕ) : Type 0 where
+  pub left_plain : HasPlainRegisters left
+  pub right_plain : HasPlainRegisters right
+  pub lg_k : lg_k_byte left ≡ lg_k_byte right
+  pub width : width_bits left ≡ width_bits right
+
+-- One of two images is rejected; never with `Memory` if their registers can be compared in the images.
+abbrev pub RefusesAgreement : List ℕ → List ℕ → ℕ → ℕ → Reason → Type 0
+RefusesAgreement left right failed_old failed_new r = RefusesImages (Unit {0}) (left ∷ right ∷ []) failed_old failed_new r × (r ≡ Memory → ArePlainAlike left right → ⊥)

@@ -20,11 +20,6 @@ abbrev pub strings_from : ℕ → List ℕ → List ℕ → List (List ℕ)
 strings_from start bytes [] = []
 strings_from start bytes (end ∷ ends) = take (end - start) (drop start bytes) ∷ strings_from end bytes ends
 
--- where the last string ends, or the start if there is none
-abbrev pub end_from : ℕ → List ℕ → ℕ
-end_from start [] = start
-end_from start (end ∷ ends) = end_from end ends
-
 abbrev pub strings : List ℕ → List ℕ → List (List ℕ)
 strings bytes ends = strings_from 0 bytes ends
 

@@ -1,12 +1,11 @@
 -- SPDX-License-Identifier: Apache-2.0
 -- What the calls do with caller-owned registers (docs/MODEL.md, "Caller-owned registers").
-use Rattle.std.specs.Prelude.{◌≡◌, ℕ, ◌^◌, ◌≤◌, List, ◌++◌, length, drop, map, Some, None, All}
+use Rattle.std.specs.Prelude.{◌≡◌, ℕ, ◌^◌, ◌≤◌, List, ◌++◌, length, drop, Some, None, All}
 use Rattle.hll_base.specs.Join.{join}
 use Rattle.hll_base.specs.Reason.{number_of}
 use Rattle.hll_base.specs.declared.error.Reason.{Reason}
 use Rattle.hll_base.specs.declared.error.Reason.TheVariants.{Argument, Memory, Register}
 use Rattle.hll_coupons.specs.Fold.{fold_to, pairs}
-use Rattle.hll_coupons.specs.Hashed.{coupon_of_bytes}
 use Rattle.hll_coupons.specs.Pair.{set_of}
 use Rattle.hll_kernels.specs.Packed.{AreRegisters}
 use Rattle.hll_registers.specs.State.{cleared_state}
@@ -14,7 +13,6 @@ use Rattle.hll_base.specs.declared.hll_type.HllType.TheVariants.{Hll8}
 use Rattle.hll_sketch.specs.ByteRegisters.{TakesMaxWithImage, TakesMaxWithSketch, ReadNeedsMemory, HasFieldsOf}
 use Rattle.hll_sketch.specs.Value.{Sketch, IsLgK, registers}
 use Rattle.hll_c.specs.Answers.{RefusesWith, ok_code}
-use Rattle.hll_c.specs.Batches.{AreEnds, strings}
 use Rattle.hll_c.specs.Calls.{IsWidth}
 use Rattle.hll_c.specs.Info.{AreCountsOf}
 use Rattle.hll_c.specs.declared.info.HllHistogram.{HllHistogram}
@@ -58,30 +56,15 @@ pub data MergesRegistersInto (others old new : List ℕ) (reported_old reported_
 
 -- ---- coupons
 
--- registers, and ends of byte strings
-pub record AreAddArguments (values ends old : List ℕ) : Type 0 where
-  pub kept : HasLgK old
-  pub are : AreEnds (length values) ends
-
--- The registers become the maximum of their old values and of the registers that the coupons of byte strings fold to; or an
--- argument is out of range.
-pub data AddsValues (values ends old new : List ℕ) : ℕ → Type 0 where
-  added : {k : ℕ} → IsLgKOf old k → AreEnds (length values) ends → new ≡ join old (fold_to (set_of (map coupon_of_bytes (strings values ends))) k) → AddsValues values ends old new ok_code
-  values_argument : (AreAddArguments values ends old → ⊥) → new ≡ old → AddsValues values ends old new (number_of Argument)
-
--- `AddsValues` with strings that are delimited in another way, which `AreStrings` checks.
-pub data AddsStrings (AreStrings : Type 0) (values : List (List ℕ)) (old new : List ℕ) : ℕ → Type 0 where
-  added_strings : {k : ℕ} → IsLgKOf old k → AreStrings → new ≡ join old (fold_to (set_of (map coupon_of_bytes values)) k) → AddsStrings AreStrings values old new ok_code
-  no_strings_to_add : (HasLgK old × AreStrings → ⊥) → new ≡ old → AddsStrings AreStrings values old new (number_of Argument)
-
 -- no raw coupon has the value 0
 abbrev pub HaveValues : List ℕ → Type 0
 HaveValues coupons = All (λ raw_coupon. 2 ^ 26 ≤ raw_coupon) coupons
 
--- `AddsValues` with raw coupons
-pub data AddsCoupons (coupons old new : List ℕ) : ℕ → Type 0 where
-  added_coupons : {k : ℕ} → IsLgKOf old k → HaveValues coupons → new ≡ join old (fold_to (set_of coupons) k) → AddsCoupons coupons old new ok_code
-  coupons_argument : (HasLgK old × HaveValues coupons → ⊥) → new ≡ old → AddsCoupons coupons old new (number_of Argument)
+-- The registers become the maximum of their old values and of the registers that the coupons fold to; or the number of
+-- registers is not that of an lg_k, or the coupons can't be asked for, and nothing changes.
+pub data AddsCoupons (AreCoupons : Type 0) (coupons old new : List ℕ) : ℕ → Type 0 where
+  added_coupons : {k : ℕ} → IsLgKOf old k → AreCoupons → new ≡ join old (fold_to (set_of coupons) k) → AddsCoupons AreCoupons coupons old new ok_code
+  no_coupons_to_add : (HasLgK old × AreCoupons → ⊥) → new ≡ old → AddsCoupons AreCoupons coupons old new (number_of Argument)
 
 -- ---- folds
 

@@ -106,9 +106,9 @@ pub record HasCoupon (slot value : ℕ) (x y : Sketch) : Type 0 where
   pub is : y ≡ add x (set_of (pair slot value ∷ []))
 
 -- a sketch with the coupons of byte strings, added in turn
-pub record HasValues (values ends : List ℕ) (x y : Sketch) : Type 0 where
-  pub are : AreEnds (length values) ends
-  pub is : y ≡ add_in_turn x (map coupon_of_bytes (strings values ends))
+pub record HasValues (AreStrings : Type 0) (strings : List (List ℕ)) (x y : Sketch) : Type 0 where
+  pub are : AreStrings
+  pub is : y ≡ add_in_turn x (map coupon_of_bytes strings)
 
 -- ---- several images
 
@@ -145,17 +145,11 @@ pub record SaysAgreement (left right : List ℕ) (failed_old failed_new same : �
   pub is : (answer ≡ true) ↔ Agree here there
   pub untold : failed_new ≡ failed_old
 
--- ---- coupons of byte strings
+-- ---- coupons
 
 -- The coupons are written into the first elements of a buffer, whose other elements are unchanged; or the buffer has fewer
--- elements, or the ends are wrong, and nothing changes.
-pub data PutsCoupons (values ends old new : List ℕ) : ℕ → Type 0 where
-  wrote : AreEnds (length values) ends → length ends ≤ length old → new ≡ map coupon_of_bytes (strings values ends) ++ drop (length ends) old → PutsCoupons values ends old new ok_code
-  too_small : AreEnds (length values) ends → length old < length ends → new ≡ old → PutsCoupons values ends old new buffer_code
-  argument : (AreEnds (length values) ends → ⊥) → new ≡ old → PutsCoupons values ends old new (number_of Argument)
-
--- `PutsCoupons` of strings that are delimited in another way, which `AreStrings` checks.
-pub data PutsCouponsOf (AreStrings : Type 0) (values : List (List ℕ)) (old new : List ℕ) : ℕ → Type 0 where
-  put : AreStrings → length values ≤ length old → new ≡ map coupon_of_bytes values ++ drop (length values) old → PutsCouponsOf AreStrings values old new ok_code
-  no_room : AreStrings → length old < length values → new ≡ old → PutsCouponsOf AreStrings values old new buffer_code
-  no_strings : (AreStrings → ⊥) → new ≡ old → PutsCouponsOf AreStrings values old new (number_of Argument)
+-- elements, or the coupons can't be asked for, and nothing changes.
+pub data PutsCoupons (AreCoupons : Type 0) (coupons old new : List ℕ) : ℕ → Type 0 where
+  put : AreCoupons → length coupons ≤ length old → new ≡ coupons ++ drop (length coupons) old → PutsCoupons AreCoupons coupons old new ok_code
+  no_room : AreCoupons → length old < length coupons → new ≡ old → PutsCoupons AreCoupons coupons old new buffer_code
+  no_coupons : (AreCoupons → ⊥) → new ≡ old → PutsCoupons AreCoupons coupons old new (number_of Argument)

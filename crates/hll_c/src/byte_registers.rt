@@ -1,26 +1,23 @@
 // SPDX-License-Identifier: Apache-2.0
 //! Caller-owned registers: 2^`lg_k` bytes, one for each register.
-ghost use Rattle.std.specs.Prelude.{◌≡◌, ◌^◌, ◌≤◌, ◌↔◌, ℕ, length, map, IsTrue, IfOk, IfErr};
+ghost use Rattle.std.specs.Prelude.{◌≡◌, ◌^◌, ◌≤◌, ◌↔◌, ℕ, length, IsTrue, IfOk, IfErr};
 ghost use Rattle.hll_base.specs.declared.error.Reason.TheVariants as reasons;
 ghost use Rattle.hll_base.specs.Join.{join};
 ghost use Rattle.hll_coupons.specs.Fold.{fold_to};
-ghost use Rattle.hll_coupons.specs.Hashed.{coupon_of_bytes};
 ghost use Rattle.hll_coupons.specs.Pair.{set_of};
 ghost use Rattle.hll_kernels.specs.Packed.{AreRegisters};
 ghost use Rattle.hll_sketch.specs.Layout.{sketch_of};
 ghost use Rattle.hll_sketch.specs.Value.{IsLgK};
-ghost use Rattle.hll_c.specs.Batches.{AreEnds, strings};
-ghost use Rattle.hll_c.specs.ByteRegisters.{HasLgK, IsLgKOf, HaveValues, MergesImageInto, MergesRegistersInto, AddsValues, AddsCoupons, FoldsInPlace, RefusesRegisters, SaysCounts, IsOfBytes, RefusesBytes};
+ghost use Rattle.hll_c.specs.ByteRegisters.{HasLgK, IsLgKOf, MergesImageInto, MergesRegistersInto, AddsCoupons, FoldsInPlace, RefusesRegisters, SaysCounts, IsOfBytes, RefusesBytes};
 
 use crate::answer::OK;
 use crate::arguments::{lg_k_of_number, width_of};
-use crate::batch::are_ends;
+use crate::coupons::Coupons;
 use crate::info::{HllHistogram, counts_of};
 use hll_arrays::registers::two_to;
 use hll_base::bounds::{MAX_LG_K, MAX_VALUE, MIN_LG_K, SLOT_BITS};
 use hll_base::error::{Error, Reason};
 use hll_coupons::coupon::Coupon;
-use hll_images::image_coupons::max_coupons;
 use hll_kernels::kernels::greatest_of;
 use hll_registers::register_slice::RegisterSlice;
 use hll_sketch::max_registers::{fold_in_place, max_registers, merge_image, sketch_in_registers};
@@ -114,57 +111,31 @@ pub(crate) fn merge_others(registers: &mut [u8], others: &[u8], coarser: &mut u8
     }
 }
 
-/// Adds the coupons of byte strings to caller-owned registers.
-pub(crate) fn add(registers: &mut [u8], values: &[u8], ends: &[usize]) -> u8
-    ensures { AddsValues values.now ends.now registers.old registers.new result }
-{
-    let Ok(lg_k) = lg_k_of(registers) else {
-        return Reason::Argument.number();
-    };
-    if !are_ends(ends, values.len()) {
-        return Reason::Argument.number();
-    }
-    max_values(registers, lg_k, values, ends);
-    OK
-}
-
-/// Adds the coupons of byte strings, whose ends ascend, to registers.
-fn max_values(registers: &mut [u8], lg_k: u8, values: &[u8], ends: &[usize])
-    requires lg_k { IsLgKOf registers.old lg_k }
-    requires ends { AreEnds (length values.now) ends.now }
-    ensures { registers.new ≡ join registers.old (fold_to (set_of (map coupon_of_bytes (strings values.now ends.now))) lg_k) }
-{
-    let mut start = 0;
-    for end in ends {
-        max_coupon(registers, lg_k, Coupon::from_bytes(&values[start..*end]));
-        start = *end;
-    }
-}
-
 /// Adds coupons to caller-owned registers.
-pub(crate) fn add_coupons(registers: &mut [u8], coupons: &[u32]) -> u8
-    ensures { AddsCoupons coupons.now registers.old registers.new result }
+pub(crate) fn add<C: Coupons>(registers: &mut [u8], coupons: &C) -> u8
+    ensures { AddsCoupons (C.Coupons.are coupons.now) (C.Coupons.raw_coupons coupons.now) registers.old registers.new result }
 {
     let Ok(lg_k) = lg_k_of(registers) else {
         return Reason::Argument.number();
     };
-    if !have_values(coupons) {
+    if !coupons.are_valid() {
         return Reason::Argument.number();
     }
-    max_coupons(registers, lg_k, coupons);
+    max_each(registers, lg_k, coupons);
     OK
 }
 
-/// Returns whether no coupon has the value 0.
-pub(crate) fn have_values(coupons: &[u32]) -> bool
-    ensures { IsTrue result ↔ HaveValues coupons.now }
+/// Adds coupons to registers.
+fn max_each<C: Coupons>(registers: &mut [u8], lg_k: u8, coupons: &C)
+    requires lg_k { IsLgKOf registers.old lg_k }
+    requires are { C.Coupons.are coupons.now }
+    ensures { registers.new ≡ join registers.old (fold_to (set_of (C.Coupons.raw_coupons coupons.now)) lg_k) }
 {
-    for raw in coupons {
-        if *raw < 1 << SLOT_BITS {
-            return false;
-        }
+    for number in 0..coupons.count() {
+        let raw = coupons.raw_coupon(number);
+        let coupon = Coupon::pack(raw, (raw >> SLOT_BITS) as u8);
+        max_coupon(registers, lg_k, coupon);
     }
-    true
 }
 
 /// Folds caller-owned registers in place, into their first 2^`to` bytes.

@@ -5,7 +5,7 @@ ghost use Rattle.hll_base.specs.declared.error.Reason.TheVariants as reasons;
 ghost use Rattle.hll_coupons.specs.Hashed.{coupon_of_bytes};
 ghost use Rattle.hll_coupons.specs.Pair.{set_of, value_of};
 ghost use Rattle.hll_sketch.specs.Adding.{add};
-ghost use Rattle.hll_images.specs.BorrowedRegisters.{lg_k_of, values_of, AreWhole};
+ghost use Rattle.hll_images.specs.BorrowedRegisters.{lg_k_of, values_of, width_of, width_in, AreWhole};
 ghost use Rattle.hll_sketch.specs.ByteRegisters.{AreRegistersOf};
 ghost use Rattle.hll_images.specs.CouponImages.{IsImageWith};
 ghost use Rattle.hll_sketch.specs.EstimatorFields.{SetsFields};
@@ -13,17 +13,18 @@ ghost use Rattle.hll_sketch.specs.Image.{IsReadAs, IsSizeOfImage, stage_bits, wi
 ghost use Rattle.hll_sketch.specs.Laws.{add_in_turn};
 ghost use Rattle.hll_sketch.specs.Layout.{sketch_of};
 ghost use Rattle.hll_images.specs.RegisterImages.{IsFilledImageWith, IsPlainImage};
+ghost use Rattle.hll_sketch.specs.MergedIn.{HasPlainRegisters};
 ghost use Rattle.hll_sketch.specs.Value.{Sketch, IsLgK};
-ghost use Rattle.hll_c.specs.Answers.{IsImageOf, WithFields, RefusesArguments, RefusesImage, RefusesTested, RefusesWith, RefusesImages};
-ghost use Rattle.hll_c.specs.Batches.{AreEnds, strings};
+ghost use Rattle.hll_c.specs.Answers.{IsImageOf, WithFields, RefusesArguments, RefusesImage, RefusesTested, RefusesWith, RefusesImages, ArePlainAlike};
 ghost use Rattle.hll_c.specs.Calls.{bit, AreNewArguments, IsEmptyAt, IsMadeOf, IsFoldOf, RefusesFold, HasWidth, IsAtWidth, AsksWidth, AsksOwnWidth, IsCleared, AreOfCoupon, HasCoupon, HasValues, SaysAgreement};
 ghost use Rattle.hll_c.specs.Steps.{IsRefusedAt};
 ghost use Rattle.hll_c.specs.BytesOrParts.{bytes_of};
 
 use crate::answer::{BytesOrParts, image_with_fields};
 use crate::arguments::{asked_width, lg_k_of_number, width_of};
-use crate::batch::{are_ends, put_each};
+use crate::coupons::{CouponsOf, put_each};
 use crate::state::image_of_registers;
+use crate::strings::Strings;
 use hll_base::bounds::{MAX_VALUE, SLOT_BITS};
 use hll_base::error::{Error, Reason};
 use hll_base::hll_type::HllType;
@@ -59,7 +60,9 @@ fn read_registers<'a>(
     failed: &mut usize,
 ) -> Result<BorrowedRegisters<'a>, Error>
     ensures ok { IfOk result (λ r. AreRegistersOf image.now (lg_k_of r) (values_of r) × AreWhole r × (failed.new ≡ failed.old)) }
+    ensures width { IfOk result (λ r. width_of r ≡ width_in image.now) }
     ensures err { IfErr result (λ e. IsRefusedAt image.now number failed.old failed.new e) }
+    ensures plain { IfErr result (λ e. e ≡ reasons.Memory → HasPlainRegisters image.now → ⊥) }
 {
     match BorrowedRegisters::read(alloc, image) {
         Ok(registers) => Ok(registers),
@@ -71,6 +74,7 @@ fn read_registers<'a>(
 fn check_at(alloc: Global, image: &[u8], number: usize, failed: &mut usize) -> Result<(), Error>
     ensures ok { OnOk result (((x : Sketch) × IsReadAs image.now x) × (failed.new ≡ failed.old)) }
     ensures err { IfErr result (λ e. IsRefusedAt image.now number failed.old failed.new e) }
+    ensures plain { IfErr result (λ e. e ≡ reasons.Memory → HasPlainRegisters image.now → ⊥) }
 {
     match HllSketch::check(alloc, image) {
         Ok(()) => Ok(()),
@@ -149,105 +153,106 @@ fn are_of_coupon(slot: u32, value: u32) -> bool
     slot < 1 << SLOT_BITS && 0 < value && value <= u32::from(MAX_VALUE)
 }
 
-/// Returns the image with the coupons of the byte strings that are delimited by `ends`, with its estimator fields set if its
-/// estimate state is cleared.
-pub(crate) fn with_values<'a>(
+/// Returns the image with the coupons of byte strings, with its estimator fields set if its estimate state is cleared.
+pub(crate) fn with_values<'a, S: Strings>(
     alloc: Global,
     image: &'a [u8],
-    values: &[u8],
-    ends: &[usize],
+    values: &S,
 ) -> Result<BytesOrParts<'a>, Error>
-    ensures ok { IfOk result (λ written. IsImageOf (WithFields (IsMadeOf image.now (HasValues values.now ends.now))) (bytes_of written)) }
-    ensures err { IfErr result (λ e. RefusesWith (AreEnds (length values.now) ends.now) image.now e) }
-    ensures memory { IfErr result (λ e. e ≡ reasons.Memory → IsPlainImage image.now → length ends.now ≤ 1 → ⊥) }
+    ensures ok { IfOk result (λ written. IsImageOf (WithFields (IsMadeOf image.now (HasValues (S.Strings.are values.now) (S.Strings.strings values.now)))) (bytes_of written)) }
+    ensures err { IfErr result (λ e. RefusesWith (S.Strings.are values.now) image.now e) }
+    ensures memory { IfErr result (λ e. e ≡ reasons.Memory → IsPlainImage image.now → length (S.Strings.strings values.now) ≤ 1 → ⊥) }
 {
-    if !are_ends(ends, values.len()) {
+    if !values.are_delimited() {
         return Err(Error::new(Reason::Argument));
     }
-    if let Some(written) = coupon_image_with_values(alloc, image, values, ends)? {
+    if let Some(written) = coupon_image_with_values(alloc, image, values)? {
         return Ok(BytesOrParts::Bytes(written));
     }
-    if let Some(parts) = register_image_with_values(alloc, image, values, ends) {
+    if let Some(parts) = register_image_with_values(alloc, image, values) {
         return Ok(BytesOrParts::Parts(parts));
     }
-    let sketch = sketch_with_values(alloc, image, values, ends)?;
+    let sketch = sketch_with_values(alloc, image, values)?;
     Ok(BytesOrParts::Bytes(image_with_fields(sketch)?))
 }
 
 /// Returns an image of registers with the coupons of at most `FEW` byte strings, if its registers hold them all or there is one.
 /// Returns `None` for more strings, or if `register_image_with` returns `None`.
-fn register_image_with_values<'a>(
+fn register_image_with_values<'a, S: Strings>(
     alloc: Global,
     image: &'a [u8],
-    values: &[u8],
-    ends: &[usize],
+    values: &S,
 ) -> Option<ImageParts<'a>>
-    requires { AreEnds (length values.now) ends.now }
-    ensures some { IfSome result (λ written. IsFilledImageWith (map coupon_of_bytes (strings values.now ends.now)) image.now written) }
-    ensures none { IfNone result (IsPlainImage image.now → length ends.now ≤ 1 → ⊥) }
+    requires { S.Strings.are values.now }
+    ensures some { IfSome result (λ written. IsFilledImageWith (map coupon_of_bytes (S.Strings.strings values.now)) image.now written) }
+    ensures none { IfNone result (IsPlainImage image.now → length (S.Strings.strings values.now) ≤ 1 → ⊥) }
 {
-    if FEW < ends.len() {
+    let count = values.count();
+    if FEW < count {
         return None;
     }
     let mut raw_coupons = [0; FEW];
-    put_each(values, 0, ends, &mut raw_coupons);
-    register_image_with(&alloc, image, &raw_coupons[..ends.len()])
+    let raw_coupons = &mut raw_coupons[..count];
+    put_each(&CouponsOf { strings: values }, 0, raw_coupons);
+    register_image_with(&alloc, image, raw_coupons)
 }
 
 /// Returns an image of coupons with the coupons of 1 to `BLOCK` byte strings, without making a table. Returns `None` for
 /// another number of strings, for a register image, or if `coupon_image_with` returns `None`.
 // (not inlined: a caller that had the room among its own values would clear it for registers too)
 #[inline(never)]
-fn coupon_image_with_values(
+fn coupon_image_with_values<S: Strings>(
     alloc: Global,
     image: &[u8],
-    values: &[u8],
-    ends: &[usize],
+    values: &S,
 ) -> Result<Option<Vec<u8>>, Error>
-    requires { AreEnds (length values.now) ends.now }
-    ensures some { IfOk result (λ found. IfSome found (λ written. IsImageWith (map coupon_of_bytes (strings values.now ends.now)) image.now written.items)) }
+    requires { S.Strings.are values.now }
+    ensures some { IfOk result (λ found. IfSome found (λ written. IsImageWith (map coupon_of_bytes (S.Strings.strings values.now)) image.now written.items)) }
     ensures read { OnErr result ((x : Sketch) × IsReadAs image.now x) }
     ensures coupons { OnErr result (stage_bits image.now ≡ 2 → ⊥) }
     ensures err { IfErr result (λ e. e ≡ reasons.Memory) }
 {
-    if ends.is_empty() || BLOCK < ends.len() || says_registers(image) {
+    let count = values.count();
+    if count == 0 || BLOCK < count || says_registers(image) {
         return Ok(None);
     }
     let mut raw_coupons = [0; BLOCK];
-    put_each(values, 0, ends, &mut raw_coupons);
-    coupon_image_with(alloc, image, &mut raw_coupons[..ends.len()])
+    let raw_coupons = &mut raw_coupons[..count];
+    put_each(&CouponsOf { strings: values }, 0, raw_coupons);
+    coupon_image_with(alloc, image, raw_coupons)
 }
 
-/// Returns the sketch of the image with the coupons of the byte strings that are delimited by `ends`.
-fn sketch_with_values(
+/// Returns the sketch of the image with the coupons of byte strings.
+fn sketch_with_values<S: Strings>(
     alloc: Global,
     image: &[u8],
-    values: &[u8],
-    ends: &[usize],
+    values: &S,
 ) -> Result<HllSketch, Error>
-    requires { AreEnds (length values.now) ends.now }
-    ensures ok { IfOk result (λ s. IsMadeOf image.now (HasValues values.now ends.now) (sketch_of s)) }
-    ensures err { IfErr result (λ e. RefusesWith (AreEnds (length values.now) ends.now) image.now e) }
+    requires { S.Strings.are values.now }
+    ensures ok { IfOk result (λ s. IsMadeOf image.now (HasValues (S.Strings.are values.now) (S.Strings.strings values.now)) (sketch_of s)) }
+    ensures err { IfErr result (λ e. RefusesWith (S.Strings.are values.now) image.now e) }
 {
     let mut sketch = HllSketch::deserialize(alloc, image)?;
-    add_values(&mut sketch, values, ends)?;
+    add_values(&mut sketch, values)?;
     Ok(sketch)
 }
 
 /// Adds the coupons of byte strings in turn.
-fn add_values(sketch: &mut HllSketch, values: &[u8], ends: &[usize]) -> Result<(), Error>
-    requires { AreEnds (length values.now) ends.now }
-    ensures ok { OnOk result (sketch_of sketch.new ≡ add_in_turn (sketch_of sketch.old) (map coupon_of_bytes (strings values.now ends.now))) }
+fn add_values<S: Strings>(sketch: &mut HllSketch, values: &S) -> Result<(), Error>
+    requires { S.Strings.are values.now }
+    ensures ok { OnOk result (sketch_of sketch.new ≡ add_in_turn (sketch_of sketch.old) (map coupon_of_bytes (S.Strings.strings values.now))) }
     ensures err { IfErr result (λ e. e ≡ reasons.Memory) }
 {
+    let coupons = CouponsOf { strings: values };
+    let count = values.count();
     let mut raw_coupons = [0; BLOCK];
-    let mut start = 0;
-    let mut left = ends;
-    while !left.is_empty() {
-        let (block, later) = left.split_at(left.len().min(BLOCK));
-        start = put_each(values, start, block, &mut raw_coupons);
-        sketch.update_with_raw_coupons(&raw_coupons[..block.len()])?;
-        left = later;
+    let mut first = 0;
+    while first < count {
+        let size = (count - first).min(BLOCK);
+        let block = &mut raw_coupons[..size];
+        put_each(&coupons, first, block);
+        sketch.update_with_raw_coupons(block)?;
+        first += size;
     }
     Ok(())
 }
@@ -376,6 +381,7 @@ pub(crate) fn agree(
 ) -> Result<u8, Error>
     ensures ok { IfOk result (λ same. SaysAgreement left.now right.now failed.old failed.new same) }
     ensures err { IfErr result (λ e. RefusesImages (Unit {0}) (left.now ∷ right.now ∷ []) failed.old failed.new e) }
+    ensures plain { IfErr result (λ e. e ≡ reasons.Memory → ArePlainAlike left.now right.now → ⊥) }
 {
     // equal bytes are read as the same sketch
     if left == right {

@@ -19,10 +19,10 @@ ghost use Rattle.hll_coupons.specs.Hashed.{coupon_of_bytes};
 ghost use Rattle.hll_sketch.specs.EstimatorFields.{SetsFields};
 ghost use Rattle.hll_sketch.specs.Image.{IsReadAs, IsSizeOfImage};
 ghost use Rattle.hll_sketch.specs.Value.{Sketch, IsLgK};
-ghost use Rattle.hll_c.specs.Answers.{Answers, IsImageOf, PutsBytes, Reports, Tests, RefusesArguments, RefusesImage, RefusesInfo, RefusesInPlace, RefusesTested, RefusesImages};
+ghost use Rattle.hll_c.specs.Answers.{Answers, IsImageOf, PutsBytes, Reports, Tests, RefusesArguments, RefusesImage, RefusesInfo, RefusesInPlace, RefusesTested, RefusesImages, RefusesAgreement};
 ghost use Rattle.hll_c.specs.Batches.{AreEnds, strings, AreOfLength, strings_of_length, AreOffsets, strings_between};
-ghost use Rattle.hll_c.specs.ByteRegisters.{HaveValues, MergesImageInto, MergesRegistersInto, AddsValues, AddsStrings, AddsCoupons, FoldsInPlace, RefusesRegisters, SaysCounts, IsOfBytes, RefusesBytes};
-ghost use Rattle.hll_c.specs.Calls.{AreNewArguments, IsEmptyAt, IsMadeOf, IsFoldOf, RefusesFold, AsksWidth, AsksOwnWidth, IsWidth, IsAtWidth, IsCleared, AreOfCoupon, HasCoupon, HasValues, AreUnionArguments, IsUnionOf, AreBatchArguments, IsUnionOfBatch, SaysAgreement, PutsCoupons, PutsCouponsOf};
+ghost use Rattle.hll_c.specs.ByteRegisters.{HaveValues, MergesImageInto, MergesRegistersInto, AddsCoupons, FoldsInPlace, RefusesRegisters, SaysCounts, IsOfBytes, RefusesBytes};
+ghost use Rattle.hll_c.specs.Calls.{AreNewArguments, IsEmptyAt, IsMadeOf, IsFoldOf, RefusesFold, AsksWidth, AsksOwnWidth, IsWidth, IsAtWidth, IsCleared, AreOfCoupon, HasCoupon, HasValues, AreUnionArguments, IsUnionOf, AreBatchArguments, IsUnionOfBatch, SaysAgreement, PutsCoupons};
 ghost use Rattle.hll_c.specs.Estimates.{SaysEstimate, SaysEstimateOfBytes, SaysEstimateOfCounts, RefusesCounts};
 ghost use Rattle.hll_c.specs.Head.{SaysHead, RefusesHead};
 ghost use Rattle.hll_c.specs.Info.{SaysInfo, SaysHistogram};
@@ -39,26 +39,25 @@ ghost use Rattle.hll_c.specs.declared.state_info.HllStateInfo.{HllStateInfo};
 
 mod answer;
 mod arguments;
-mod batch;
 mod byte_registers;
+mod coupons;
 mod estimate;
-mod fixed;
 mod head;
 mod image;
 mod info;
 mod join;
-mod offsets;
-mod several_images;
 mod state;
 mod state_info;
+mod strings;
 mod union;
 
 use crate::answer::{code_of, put_bytes, put_bytes_or_parts, put_image, report};
-use crate::batch::put_coupons;
+use crate::coupons::{CouponSlice, CouponsOf, put_coupons};
 use crate::estimate::HllEstimate;
 use crate::head::HllHead;
 use crate::info::{HllHistogram, HllInfo};
 use crate::state_info::HllStateInfo;
+use crate::strings::{Between, Ended, OfLength};
 use hll_coupons::coupon::Coupon;
 use std::alloc::Global;
 
@@ -168,9 +167,13 @@ pub extern "C" fn hll_image_add(
     out: &mut [u8],
     size: &mut usize,
 ) -> u8
-    ensures { Answers (IsMadeOf image.now (HasValues values.now ends.now)) (RefusesInPlace (AreEnds (length values.now) ends.now) (length ends.now ≤ 1) image.now) out.old out.new size.old size.new result }
+    ensures { Answers (IsMadeOf image.now (HasValues (AreEnds (length values.now) ends.now) (strings values.now ends.now))) (RefusesInPlace (AreEnds (length values.now) ends.now) (length ends.now ≤ 1) image.now) out.old out.new size.old size.new result }
 {
-    put_bytes_or_parts(image::with_values(alloc, image, values, ends), out, size)
+    let strings = Ended {
+        bytes: values,
+        ends,
+    };
+    put_bytes_or_parts(image::with_values(alloc, image, &strings), out, size)
 }
 
 /// Writes the image with one more coupon into `out`: a slot below 2^26, and a value from 1 to 63.
@@ -351,7 +354,7 @@ pub extern "C" fn hll_images_agree(
     same: &mut u8,
     failed: &mut usize,
 ) -> u8
-    ensures { Reports ℕ (SaysAgreement left.now right.now failed.old failed.new) (RefusesImages (Unit {0}) (left.now ∷ right.now ∷ []) failed.old failed.new) same.old same.new result }
+    ensures { Reports ℕ (SaysAgreement left.now right.now failed.old failed.new) (RefusesAgreement left.now right.now failed.old failed.new) same.old same.new result }
 {
     report(image::agree(alloc, left, right, failed), same)
 }
@@ -362,9 +365,13 @@ pub extern "C" fn hll_images_agree(
 /// 2^`lg_k`. Allocates nothing.
 #[unsafe(no_mangle)]
 pub extern "C" fn hll_registers_add(registers: &mut [u8], values: &[u8], ends: &[usize]) -> u8
-    ensures { AddsValues values.now ends.now registers.old registers.new result }
+    ensures { AddsCoupons (AreEnds (length values.now) ends.now) (map coupon_of_bytes (strings values.now ends.now)) registers.old registers.new result }
 {
-    byte_registers::add(registers, values, ends)
+    let strings = &Ended {
+        bytes: values,
+        ends,
+    };
+    byte_registers::add(registers, &CouponsOf { strings })
 }
 
 /// Adds values of `value_len` bytes each, concatenated in `values`, to caller-owned registers.
@@ -377,9 +384,13 @@ pub extern "C" fn hll_registers_add_fixed(
     values: &[u8],
     value_len: usize,
 ) -> u8
-    ensures { AddsStrings (AreOfLength (length values.now) value_len) (strings_of_length value_len values.now) registers.old registers.new result }
+    ensures { AddsCoupons (AreOfLength (length values.now) value_len) (map coupon_of_bytes (strings_of_length value_len values.now)) registers.old registers.new result }
 {
-    fixed::add(registers, values, value_len)
+    let strings = &OfLength {
+        bytes: values,
+        len: value_len,
+    };
+    byte_registers::add(registers, &CouponsOf { strings })
 }
 
 /// Adds raw coupons to caller-owned registers.
@@ -387,9 +398,12 @@ pub extern "C" fn hll_registers_add_fixed(
 /// Returns `Argument` if a coupon has the value 0, or if the number of registers is not 2^`lg_k`.
 #[unsafe(no_mangle)]
 pub extern "C" fn hll_registers_add_coupons(registers: &mut [u8], coupons: &[u32]) -> u8
-    ensures { AddsCoupons coupons.now registers.old registers.new result }
+    ensures { AddsCoupons (HaveValues coupons.now) coupons.now registers.old registers.new result }
 {
-    byte_registers::add_coupons(registers, coupons)
+    let coupons = CouponSlice {
+        raw_coupons: coupons,
+    };
+    byte_registers::add(registers, &coupons)
 }
 
 /// Merges an image of any stage and width into caller-owned registers. If the image has more registers, they are folded.
@@ -500,9 +514,13 @@ pub extern "C" fn hll_coupon(value: &[u8]) -> u32
 /// `coupons` has elements.
 #[unsafe(no_mangle)]
 pub extern "C" fn hll_coupons(values: &[u8], ends: &[usize], coupons: &mut [u32]) -> u8
-    ensures { PutsCoupons values.now ends.now coupons.old coupons.new result }
+    ensures { PutsCoupons (AreEnds (length values.now) ends.now) (map coupon_of_bytes (strings values.now ends.now)) coupons.old coupons.new result }
 {
-    put_coupons(values, ends, coupons)
+    let strings = &Ended {
+        bytes: values,
+        ends,
+    };
+    put_coupons(&CouponsOf { strings }, coupons)
 }
 
 /// Writes the raw coupons of values of `value_len` bytes each, concatenated in `values`, into the first elements of `coupons`.
@@ -511,9 +529,13 @@ pub extern "C" fn hll_coupons(values: &[u8], ends: &[usize], coupons: &mut [u32]
 /// has elements. Allocates nothing.
 #[unsafe(no_mangle)]
 pub extern "C" fn hll_coupons_fixed(values: &[u8], value_len: usize, coupons: &mut [u32]) -> u8
-    ensures { PutsCouponsOf (AreOfLength (length values.now) value_len) (strings_of_length value_len values.now) coupons.old coupons.new result }
+    ensures { PutsCoupons (AreOfLength (length values.now) value_len) (map coupon_of_bytes (strings_of_length value_len values.now)) coupons.old coupons.new result }
 {
-    fixed::put_coupons(values, value_len, coupons)
+    let strings = &OfLength {
+        bytes: values,
+        len: value_len,
+    };
+    put_coupons(&CouponsOf { strings }, coupons)
 }
 
 /// Writes the raw coupons of the byte strings in `values` between one offset and the next into the first elements of `coupons`.
@@ -524,9 +546,13 @@ pub extern "C" fn hll_coupons_fixed(values: &[u8], value_len: usize, coupons: &m
 /// Returns 14 if there are more values than `coupons` has elements. Allocates nothing.
 #[unsafe(no_mangle)]
 pub extern "C" fn hll_coupons_ends32(values: &[u8], offsets: &[u32], coupons: &mut [u32]) -> u8
-    ensures { PutsCouponsOf (AreOffsets (length values.now) offsets.now) (strings_between offsets.now values.now) coupons.old coupons.new result }
+    ensures { PutsCoupons (AreOffsets (length values.now) offsets.now) (map coupon_of_bytes (strings_between offsets.now values.now)) coupons.old coupons.new result }
 {
-    offsets::put_coupons(values, offsets, coupons)
+    let strings = &Between {
+        bytes: values,
+        offsets,
+    };
+    put_coupons(&CouponsOf { strings }, coupons)
 }
 
 /// Makes the state of an empty sketch. A state is a slice of elements of four bytes each.
@@ -561,7 +587,11 @@ pub extern "C" fn hll_state_add(
     ensures lg_k_open { is_open state.new ≡ is_open state.old }
     ensures left { LeavesWhole state.old state.new }
 {
-    state::add(state, values, ends, size)
+    let strings = &Ended {
+        bytes: values,
+        ends,
+    };
+    state::add(state, &CouponsOf { strings }, size)
 }
 
 /// Adds one value to a state, as `hll_state_add` does.
@@ -589,7 +619,10 @@ pub extern "C" fn hll_state_add_coupons(
     ensures lg_k_open { is_open state.new ≡ is_open state.old }
     ensures left { LeavesWhole state.old state.new }
 {
-    state::add_coupons(state, coupons, size)
+    let coupons = CouponSlice {
+        raw_coupons: coupons,
+    };
+    state::add(state, &coupons, size)
 }
 
 /// Merges the sketch of an image into a state. The result is their union, with the state's `lg_k` as its bound.

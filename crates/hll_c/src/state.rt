@@ -1,6 +1,6 @@
 // SPDX-License-Identifier: Apache-2.0
 //! States of counters in caller-owned memory.
-ghost use Rattle.std.specs.Prelude.{◌≡◌, ◌≢◌, ◌*◌, ◌-◌, ◌^◌, ◌<◌, ◌≤◌, ◌⊎◌, [], ◌∷◌, true, false, Some, length, drop, map, IfSome, IfNone, IfOk, IfErr};
+ghost use Rattle.std.specs.Prelude.{◌≡◌, ◌≢◌, ◌*◌, ◌-◌, ◌^◌, ◌<◌, ◌≤◌, ◌⊎◌, [], ◌∷◌, true, false, Some, length, drop, IfSome, IfNone, IfOk, IfErr};
 ghost use Rattle.hll_base.specs.declared.error.Reason.TheVariants.{Memory};
 ghost use Rattle.hll_base.specs.declared.error.Reason.TheVariants as reasons;
 ghost use Rattle.hll_coupons.specs.Hashed.{coupon_of_bytes};
@@ -18,8 +18,6 @@ ghost use Rattle.hll_state.specs.Memory.{is_open as is_lg_k_open};
 ghost use Rattle.hll_state.specs.Merged.{HasLegalRegisters};
 ghost use Rattle.hll_state.specs.Registers.{values};
 ghost use Rattle.hll_c.specs.Answers.{buffer_code, Answers, IsImageOf, WithFields};
-ghost use Rattle.hll_c.specs.Batches.{AreEnds, strings};
-ghost use Rattle.hll_c.specs.ByteRegisters.{HaveValues};
 ghost use Rattle.hll_c.specs.Calls.{IsWidth};
 ghost use Rattle.hll_c.specs.Estimates.{IsEstimateOfContent};
 ghost use Rattle.hll_c.specs.States.{IsNewState, MakesState, TakesValues, AddsToState, IsOfState, SaysEstimateOfState, RefusesState};
@@ -27,8 +25,7 @@ ghost use Rattle.hll_c.specs.declared.estimate.HllEstimate.{HllEstimate};
 
 use crate::answer::{BUFFER, OK, put_bytes};
 use crate::arguments::{lg_k_of_number, width_of};
-use crate::batch::are_ends;
-use crate::byte_registers::have_values;
+use crate::coupons::Coupons;
 use crate::estimate::{HllEstimate, estimate_of_coupons, estimate_of_registers};
 use hll_base::bounds::MIN_LG_K;
 use hll_base::error::{Error, Reason};
@@ -77,26 +74,40 @@ pub(crate) fn make(lg_k: u8, is_open: bool, state: &mut [[u8; 4]]) -> Header
     header
 }
 
-/// Adds the coupons of byte strings.
-pub(crate) fn add(state: &mut [[u8; 4]], values: &[u8], ends: &[usize], size: &mut usize) -> u8
-    ensures added { AddsToState (AreEnds (length values.now) ends.now × TakesValues state.old) (map coupon_of_bytes (strings values.now ends.now)) state.old state.new size.old size.new result }
-    ensures grows { GrowsBy (length ends.now) state.old state.new }
+/// Adds coupons.
+pub(crate) fn add<C: Coupons>(state: &mut [[u8; 4]], coupons: &C, size: &mut usize) -> u8
+    ensures added { AddsToState (C.Coupons.are coupons.now × TakesValues state.old) (C.Coupons.raw_coupons coupons.now) state.old state.new size.old size.new result }
+    ensures grows { GrowsBy (length (C.Coupons.raw_coupons coupons.now)) state.old state.new }
     ensures lg_k_open { is_lg_k_open state.new ≡ is_lg_k_open state.old }
 {
     if is_open(state) {
         return Reason::Argument.number();
     }
-    if !are_ends(ends, values.len()) {
+    if !coupons.are_valid() {
         return Reason::Argument.number();
     }
-    match begin(state, ends.len()) {
+    match begin(state, coupons.count()) {
         Begun::NoState => Reason::Argument.number(),
         Begun::NoRoom(len) => too_small(len, size),
         Begun::Room(mut header) => {
-            push_values(&mut header, &mut state[HEADER_LEN..], values, ends);
+            push_each(&mut header, &mut state[HEADER_LEN..], coupons);
             close(state, header);
             OK
         }
+    }
+}
+
+/// Adds coupons. There is room for them.
+fn push_each<C: Coupons>(header: &mut Header, body: &mut [[u8; 4]], coupons: &C)
+    requires are { C.Coupons.are coupons.now }
+    requires within { IsWithin header.old (length body.old) }
+    requires room { HasRoom header.old (length (C.Coupons.raw_coupons coupons.now)) (length body.old) }
+    ensures within { IsWithin header.new (length body.old) }
+    ensures added { sketch_in header.new body.new ≡ add_in_turn (sketch_in header.old body.old) (C.Coupons.raw_coupons coupons.now) }
+    ensures grows { IsGrownBy (length (C.Coupons.raw_coupons coupons.now)) header.old header.new }
+{
+    for number in 0..coupons.count() {
+        header.push(body, coupons.raw_coupon(number));
     }
 }
 
@@ -108,45 +119,6 @@ pub(crate) fn too_small(len: usize, size: &mut usize) -> u8
 {
     *size = 4 * len;
     BUFFER
-}
-
-/// Adds the coupons of byte strings, whose ends ascend. There is room for them.
-fn push_values(header: &mut Header, body: &mut [[u8; 4]], values: &[u8], ends: &[usize])
-    requires within { IsWithin header.old (length body.old) }
-    requires room { HasRoom header.old (length ends.now) (length body.old) }
-    requires ends { AreEnds (length values.now) ends.now }
-    ensures within { IsWithin header.new (length body.old) }
-    ensures added { sketch_in header.new body.new ≡ add_in_turn (sketch_in header.old body.old) (map coupon_of_bytes (strings values.now ends.now)) }
-    ensures grows { IsGrownBy (length ends.now) header.old header.new }
-{
-    let mut start = 0;
-    for end in ends {
-        header.push(body, Coupon::from_bytes(&values[start..*end]).raw());
-        start = *end;
-    }
-}
-
-/// Adds raw coupons.
-pub(crate) fn add_coupons(state: &mut [[u8; 4]], coupons: &[u32], size: &mut usize) -> u8
-    ensures added { AddsToState (HaveValues coupons.now × TakesValues state.old) coupons.now state.old state.new size.old size.new result }
-    ensures grows { GrowsBy (length coupons.now) state.old state.new }
-    ensures lg_k_open { is_lg_k_open state.new ≡ is_lg_k_open state.old }
-{
-    if is_open(state) {
-        return Reason::Argument.number();
-    }
-    if !have_values(coupons) {
-        return Reason::Argument.number();
-    }
-    match begin(state, coupons.len()) {
-        Begun::NoState => Reason::Argument.number(),
-        Begun::NoRoom(len) => too_small(len, size),
-        Begun::Room(mut header) => {
-            push_coupons(&mut header, &mut state[HEADER_LEN..], coupons);
-            close(state, header);
-            OK
-        }
-    }
 }
 
 /// Adds the coupon of a byte string.
@@ -226,19 +198,6 @@ fn add_with(state: &mut [[u8; 4]], header: Header, raw: u32, size: &mut usize) -
             close(state, header);
             OK
         }
-    }
-}
-
-/// Adds raw coupons. There is room for them.
-fn push_coupons(header: &mut Header, body: &mut [[u8; 4]], coupons: &[u32])
-    requires within { IsWithin header.old (length body.old) }
-    requires room { HasRoom header.old (length coupons.now) (length body.old) }
-    ensures within { IsWithin header.new (length body.old) }
-    ensures added { sketch_in header.new body.new ≡ add_in_turn (sketch_in header.old body.old) coupons.now }
-    ensures grows { IsGrownBy (length coupons.now) header.old header.new }
-{
-    for raw in coupons {
-        header.push(body, *raw);
     }
 }
 

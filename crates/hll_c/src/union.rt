@@ -18,10 +18,9 @@ ghost use Rattle.hll_c.specs.Calls.{bits_of, AreUnionArguments, IsUnionOf, AreBa
 ghost use Rattle.hll_c.specs.Steps.{IsUnionInBytes, AreAllRead, union_so_far, IsMergedInPlace, MergesInto, MergesInAll, IsRefusedAt, FailsToMergeIn};
 
 use crate::arguments::{lg_k_of_number, width_of};
-use crate::batch::are_ends;
 use crate::image::refused_at;
-use crate::several_images::{Batch, Images, Parts};
 use crate::state::image_of_legal;
+use crate::strings::{Ended, Parts, Strings};
 use hll_base::bounds::MAX_VALUE;
 use hll_base::error::{Error, Reason};
 use hll_base::hll_type::HllType;
@@ -272,27 +271,27 @@ pub(crate) fn union_of_batch(
     ensures ok { IfOk result (λ image. IsImageOf (WithFields (IsUnionOfBatch lg_max_k width images.now ends.now failed.old failed.new)) image.items) }
     ensures err { IfErr result (λ e. RefusesImages (AreBatchArguments lg_max_k width (length images.now) ends.now) (strings images.now ends.now) failed.old failed.new e) }
 {
-    if !are_ends(ends, images.len()) {
-        return Err(Error::new(Reason::Argument));
-    }
-    let batch = Batch {
+    let images = Ended {
         bytes: images,
         ends,
     };
-    union_of(alloc, lg_max_k, width, &batch, failed)
+    if !images.are_delimited() {
+        return Err(Error::new(Reason::Argument));
+    }
+    union_of(alloc, lg_max_k, width, &images, failed)
 }
 
 /// Returns the image of the union of images at a width, with its estimator fields set if its estimate state is cleared.
-fn union_of<I: Images>(
+fn union_of<S: Strings>(
     alloc: Global,
     lg_max_k: u32,
     width: u32,
-    images: &I,
+    images: &S,
     failed: &mut usize,
 ) -> Result<Vec<u8>, Error>
-    requires { I.Images.are images.now }
-    ensures ok { IfOk result (λ image. IsImageOf (WithFields (IsUnionOf lg_max_k width (I.Images.images images.now) failed.old failed.new)) image.items) }
-    ensures err { IfErr result (λ e. RefusesImages (AreUnionArguments lg_max_k width) (I.Images.images images.now) failed.old failed.new e) }
+    requires { S.Strings.are images.now }
+    ensures ok { IfOk result (λ image. IsImageOf (WithFields (IsUnionOf lg_max_k width (S.Strings.strings images.now) failed.old failed.new)) image.items) }
+    ensures err { IfErr result (λ e. RefusesImages (AreUnionArguments lg_max_k width) (S.Strings.strings images.now) failed.old failed.new e) }
 {
     let lg_max_k = lg_k_of_number(lg_max_k)?;
     let hll_type = width_of(width)?;
@@ -308,23 +307,29 @@ fn union_of<I: Images>(
 /// others.
 ///
 /// Fails with `Memory`.
-fn union_of_few<I: Images>(
+fn union_of_few<S: Strings>(
     alloc: Global,
     lg_max_k: u8,
     hll_type: HllType,
-    images: &I,
+    images: &S,
 ) -> Result<Option<Vec<u8>>, Error>
-    requires are { I.Images.are images.now }
+    requires are { S.Strings.are images.now }
     requires lg_k { IsLgK lg_max_k }
-    ensures some { IfOk result (λ found. IfSome found (λ image. IsUnionInBytes lg_max_k (bits_of hll_type) (I.Images.images images.now) image.items)) }
-    ensures err { IfErr result (λ e. (e ≡ Memory) × AreAllRead (I.Images.images images.now)) }
+    ensures some { IfOk result (λ found. IfSome found (λ image. IsUnionInBytes lg_max_k (bits_of hll_type) (S.Strings.strings images.now) image.items)) }
+    ensures err { IfErr result (λ e. (e ≡ Memory) × AreAllRead (S.Strings.strings images.now)) }
 {
     let count = images.count();
     if count == 1 {
-        return union_of_one_coupon_image(alloc, lg_max_k, hll_type, images.image(0));
+        return union_of_one_coupon_image(alloc, lg_max_k, hll_type, images.string(0));
     }
-    if count == 2 && are_small(lg_max_k, images.image(0), images.image(1)) {
-        return union_of_coupon_images(alloc, lg_max_k, hll_type, images.image(0), images.image(1));
+    if count == 2 && are_small(lg_max_k, images.string(0), images.string(1)) {
+        return union_of_coupon_images(
+            alloc,
+            lg_max_k,
+            hll_type,
+            images.string(0),
+            images.string(1),
+        );
     }
     Ok(None)
 }
@@ -338,18 +343,18 @@ fn are_small(lg_max_k: u8, left: &[u8], right: &[u8]) -> bool
 }
 
 /// Merges images into a union in turn.
-fn merge_in_all<I: Images>(
+fn merge_in_all<S: Strings>(
     union: &mut GrowingUnion,
     alloc: Global,
-    images: &I,
+    images: &S,
     failed: &mut usize,
 ) -> Result<(), Error>
-    requires { I.Images.are images.now }
-    ensures ok { OnOk result (MergesInAll union.old union.new (I.Images.images images.now) × (failed.new ≡ failed.old)) }
-    ensures err { IfErr result (λ e. FailsToMergeIn (I.Images.images images.now) failed.old failed.new e) }
+    requires { S.Strings.are images.now }
+    ensures ok { OnOk result (MergesInAll union.old union.new (S.Strings.strings images.now) × (failed.new ≡ failed.old)) }
+    ensures err { IfErr result (λ e. FailsToMergeIn (S.Strings.strings images.now) failed.old failed.new e) }
 {
     for number in 0..images.count() {
-        union.merge_in(alloc, images.image(number), number, failed)?;
+        union.merge_in(alloc, images.string(number), number, failed)?;
     }
     Ok(())
 }

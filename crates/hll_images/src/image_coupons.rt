@@ -97,7 +97,7 @@ impl<A: Allocator + Clone> ImageCoupons<A> {
 }
 
 /// Adds raw coupons to 2^`lg_k` registers of one byte each. None of them has the value 0.
-pub fn max_coupons(registers: &mut [u8], lg_k: u8, raw_coupons: &[u32])
+fn max_coupons(registers: &mut [u8], lg_k: u8, raw_coupons: &[u32])
     requires most { lg_k ≤ 21 }
     requires size { length registers.old ≡ 2 ^ lg_k }
     ensures { registers.new ≡ join registers.old (fold_to (set_of raw_coupons.now) lg_k) }

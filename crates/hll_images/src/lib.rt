@@ -5,7 +5,7 @@
 
 pub mod borrowed_registers;
 pub mod coupon_images;
-pub mod image_coupons;
+mod image_coupons;
 pub mod laws;
 mod nonzero_registers;
 pub mod register_bytes;

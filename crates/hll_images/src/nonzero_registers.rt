@@ -1,5 +1,5 @@
 // SPDX-License-Identifier: Apache-2.0
-//! The registers above 0 that coupons fold to, without the others: as many as there are coupons, at most.
+//! The registers above 0 that coupons fold to, without the others. There is at most one for each coupon.
 ghost use Rattle.std.specs.Prelude.{◌≡◌, ◌≤◌, ℕ, All, IfOk, IfErr};
 ghost use Rattle.std.specs.List.Sorted.{IsNonDecreasing};
 ghost use Rattle.hll_base.specs.declared.error.Reason.TheVariants.{Memory};

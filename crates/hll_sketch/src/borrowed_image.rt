@@ -1,7 +1,7 @@
 // SPDX-License-Identifier: Apache-2.0
 //! The sketch of an image. Coupons or registers that can be used in the bytes of the image are not copied, and few coupons with
 //! gaps between them are copied into room that the caller lends.
-ghost use Rattle.std.specs.Prelude.{◌≡◌, ◌<◌, IfSome, IfOk, IfErr};
+ghost use Rattle.std.specs.Prelude.{◌≡◌, ◌<◌, IfSome, IfNone, IfOk, IfErr};
 ghost use Rattle.hll_base.specs.declared.error.Reason.TheVariants.{Memory};
 ghost use Rattle.hll_coupons.specs.Coupons.{raw_coupons, AreCoupons};
 ghost use Rattle.hll_sketch.specs.BorrowedImage.{sketch_of_borrowed, sketch_of_coupons, HasCouponsInTable};
@@ -9,7 +9,7 @@ ghost use Rattle.hll_sketch.specs.ByteRegisters.{ReadNeedsMemory};
 ghost use Rattle.hll_sketch.specs.Header.{header_of};
 ghost use Rattle.hll_sketch.specs.Image.{HasHeader, IsReadAs, stage_bits};
 ghost use Rattle.hll_sketch.specs.Layout.{count_in};
-ghost use Rattle.hll_sketch.specs.MergedIn.{IsOfCoupons};
+ghost use Rattle.hll_sketch.specs.MergedIn.{IsOfCoupons, HasCompactCoupons};
 ghost use Rattle.hll_sketch.specs.Refusal.{IsRefusal};
 ghost use Rattle.hll_sketch.specs.Value.{is_empty, IsLgK};
 
@@ -140,7 +140,8 @@ impl<'a, A: Allocator> BorrowedImage<'a, A> {
 ///
 /// It needs no room: `BorrowedImage::read` does, and clearing it takes about 10 ns.
 pub fn compact_image(image: &[u8]) -> Option<CouponsOfImage<'_>>
-    ensures { IfSome result (λ c. IsReadAs image.now (sketch_of_coupons c)) }
+    ensures some { IfSome result (λ c. IsReadAs image.now (sketch_of_coupons c)) }
+    ensures none { IfNone result (HasCompactCoupons image.now → ⊥) }
 {
     if says_registers(image) {
         return None;

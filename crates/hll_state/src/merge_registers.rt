@@ -11,7 +11,7 @@ ghost use Rattle.hll_sketch.specs.Value as content;
 ghost use Rattle.hll_sketch.specs.Value.{Sketch, in_registers, pairs_of};
 ghost use Rattle.hll_state.specs.Counter.{sketch_in, IsResolved};
 ghost use Rattle.hll_state.specs.CouponRun.{raws};
-ghost use Rattle.hll_state.specs.Header.{IsWithin, HasRoom, HasShortTail};
+ghost use Rattle.hll_state.specs.Header.{has_registers, IsWithin, HasRoom, HasShortTail};
 ghost use Rattle.hll_state.specs.Merged.{HasSomeRegister, used_in};
 ghost use Rattle.hll_state.specs.Registers.{values};
 ghost use Rattle.hll_state.specs.declared.header.Held.TheVariants.{Registers};
@@ -94,6 +94,7 @@ impl Header {
         ensures registers { IfSome result (λ _. in_registers (sketch_in self.old body.old).content ≡ true) }
         ensures greatest { IfSome result (λ greatest. (bound : ℕ) → list_all (λ b. nat_le b bound) bytes.now ≡ nat_le greatest bound) }
         ensures none { IfNone result ((self.new ≡ self.old) × (body.new ≡ body.old)) }
+        ensures lacks { IfNone result (self.old.lg_k ≡ lg_k → 6 ≤ lg_k → has_registers self.old.held ≡ false) }
     {
         if !self.has_registers_at(lg_k) {
             return None;
@@ -126,7 +127,8 @@ impl Header {
 
     /// Returns whether the state has registers at this `lg_k`, and at least 64 of them.
     fn has_registers_at(&self, lg_k: u8) -> bool
-        ensures { result ≡ true → (self.now.lg_k ≡ lg_k) × (6 ≤ lg_k) × ((state : EstimateState) × (self.now.held ≡ Registers state)) }
+        ensures has { result ≡ true → (self.now.lg_k ≡ lg_k) × (6 ≤ lg_k) × ((state : EstimateState) × (self.now.held ≡ Registers state)) }
+        ensures lacks { result ≡ false → self.now.lg_k ≡ lg_k → 6 ≤ lg_k → has_registers self.now.held ≡ false }
     {
         match self.held {
             Held::Coupons(_) => false,

@@ -8,5 +8,5 @@ use Rattle.hll_c.proofs.hll_state_add_coupons.Goals as goal
 
 pub returns-clause-left : goal.returns-clause-left
 returns-clause-left c =
-    leaves_added (HaveValues c.args.coupons.now × TakesValues c.args.state.now) c.args.coupons.now c.args.state.now c.add_coupons.new.state c.args.size.now c.add_coupons.new.size c.add_coupons.result
-    (λ are. pairs_of_coupons c.args.coupons.now (All-from_get_or (λ raw. raw < 2 ^ 32) c.args.coupons.now 0 (λ i within. omega (arith, c.type_inv.coupons i))) are.0) c.add_coupons.ensures.added
+    leaves_added (HaveValues c.args.coupons.now × TakesValues c.args.state.now) c.args.coupons.now c.args.state.now c.add.new.state c.args.size.now c.add.new.size c.add.result
+    (λ are. pairs_of_coupons c.args.coupons.now (All-from_get_or (λ raw. raw < 2 ^ 32) c.args.coupons.now 0 (λ i within. omega (arith, c.type_inv.coupons i))) are.0) c.add.ensures.added

@@ -3,7 +3,7 @@ use Rattle.std.proofs.Common.{sym, subst}
 use Rattle.hll_base.proofs.Errors.{IfErr-passed}
 use Rattle.hll_kernels.specs.Packed.{AreRegisters}
 use Rattle.hll_c.specs.ByteRegisters.{RefusesRegisters, no_lg_k, above_63}
-use Rattle.hll_c.proofs.Batches.{not_so}
+use Rattle.hll_c.proofs.Answers.{not_so}
 use Rattle.hll_c.proofs.byte_registers.checked_lg_k.Goals as goal
 
 pub returns-in_err-lg_k-clause-err : goal.returns-in_err-lg_k-clause-err

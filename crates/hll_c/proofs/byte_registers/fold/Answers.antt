@@ -3,7 +3,7 @@ use Rattle.std.proofs.Common.{◌^◌, ◌++◌, drop, ◌∙◌, refl, sym, ap,
 use Rattle.hll_coupons.specs.Fold.{fold_to, pairs}
 use Rattle.hll_kernels.specs.Packed.{AreRegisters}
 use Rattle.hll_c.specs.ByteRegisters.{FoldsInPlace, folded, fold_argument, fold_register}
-use Rattle.hll_c.proofs.Batches.{not_so}
+use Rattle.hll_c.proofs.Answers.{not_so}
 use Rattle.hll_c.proofs.Powers.{same_lg_k}
 use Rattle.hll_c.proofs.byte_registers.fold.Goals as goal
 

@@ -5,7 +5,7 @@ use Rattle.hll_registers.specs.State.{cleared_state}
 use Rattle.hll_registers.specs.Store.{Stored}
 use Rattle.hll_sketch.specs.Value.{registers}
 use Rattle.hll_c.specs.ByteRegisters.{MergesRegistersInto, merged_registers, coarser_registers, others_above, others_argument, sketch_of_bytes}
-use Rattle.hll_c.proofs.Batches.{not_so}
+use Rattle.hll_c.proofs.Answers.{not_so}
 use Rattle.hll_c.proofs.byte_registers.merge_others.Goals as goal
 
 pub returns-in_default : goal.returns-in_default

@@ -1,11 +1,13 @@
 -- SPDX-License-Identifier: Apache-2.0
-use Rattle.std.proofs.Common.{◌≡◌, [], ◌∷◌, true, refl, subst, sym, ◌∙◌}
+use Rattle.std.proofs.Common.{◌≡◌, ℕ, List, [], ◌∷◌, true, refl, subst, sym, ◌∙◌}
 use lib.Pointwise.{bytes_decides}
 use Rattle.hll_base.proofs.Errors.{IfErr-passed}
 use Rattle.hll_images.specs.BorrowedRegisters.{lg_k_of, values_of}
 use Rattle.hll_sketch.specs.Image.{IsReadAs}
-use Rattle.hll_c.specs.Answers.{RefusesImages}
-use Rattle.hll_c.proofs.Agreement.{bit_of, same_is_agreement}
+use Rattle.hll_base.specs.declared.error.Reason.{Reason}
+use Rattle.hll_base.specs.declared.error.Reason.TheVariants.{Memory}
+use Rattle.hll_c.specs.Answers.{RefusesImages, ArePlainAlike}
+use Rattle.hll_c.proofs.Agreement.{bit_of, same_is_agreement, lie_alike}
 use Rattle.hll_c.proofs.Images.{asked_after, refuses_first, refuses_more_memory, refuses_second}
 use Rattle.hll_c.proofs.image.agree.Goals as goal
 
@@ -72,3 +74,26 @@ returns-clause-ok c =
       is = (λ t. same.0 (c.in_ok-agrees_with.ensures.ok.0 t), λ agree. c.in_ok-agrees_with.ensures.ok.1 (same.1 agree));
       untold = right.2 ∙ left.2;
     }
+
+-- why the comparison can't fail
+abbrev Never : List ℕ → List ℕ → Reason → Type 0
+Never left right e = e ≡ Memory → ArePlainAlike left right → ⊥
+
+pub returns-in_err-check_at-clause-plain : goal.returns-in_err-check_at-clause-plain
+returns-in_err-check_at-clause-plain c =
+    IfErr-passed (Never c.args.left.now c.args.right.now) c.from_residual.result c.in_err-check_at.field-0.0 c.from_residual.ensures.1 (λ memory alike. c.in_err-check_at.ensures.plain memory alike.left_plain)
+
+pub returns-in_err-left-clause-plain : goal.returns-in_err-left-clause-plain
+returns-in_err-left-clause-plain c =
+    IfErr-passed (Never c.args.left.now c.args.right.now) c.from_residual-in_err-left.result c.in_err-left.field-0.0 c.from_residual-in_err-left.ensures.1 (λ memory alike. c.in_err-left.ensures.plain memory alike.left_plain)
+
+pub returns-in_err-right-clause-plain : goal.returns-in_err-right-clause-plain
+returns-in_err-right-clause-plain c =
+    IfErr-passed (Never c.args.left.now c.args.right.now) c.from_residual-in_err-right.result c.in_err-right.field-0.0 c.from_residual-in_err-right.ensures.1 (λ memory alike. c.in_err-right.ensures.plain memory alike.right_plain)
+
+pub returns-in_err-agrees_with-clause-plain : goal.returns-in_err-agrees_with-clause-plain
+returns-in_err-agrees_with-clause-plain c =
+    let left = c.in_ok-left in
+    let right = c.in_ok-right in
+    IfErr-passed (Never c.args.left.now c.args.right.now) c.from_residual-in_err-agrees_with.result c.in_err-agrees_with.field-0.0 c.from_residual-in_err-agrees_with.ensures.1
+    (λ memory alike. c.in_err-agrees_with.ensures.never (lie_alike c.args.left.now c.args.right.now left.left right.right left.ensures.ok.0 right.ensures.ok.0 left.ensures.width right.ensures.width alike))

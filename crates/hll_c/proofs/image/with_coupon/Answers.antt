@@ -9,8 +9,7 @@ use Rattle.hll_sketch.specs.Layout.{sketch_of}
 use Rattle.hll_images.specs.RegisterImages.{IsFilledImageWith}
 use Rattle.hll_c.specs.Answers.{RefusesWith, image_refused}
 use Rattle.hll_c.specs.Calls.{AreOfCoupon, HasCoupon, IsMadeOf}
-use Rattle.hll_c.proofs.Answers.{made_with_fields}
-use Rattle.hll_c.proofs.Batches.{not_so}
+use Rattle.hll_c.proofs.Answers.{made_with_fields, not_so}
 use Rattle.hll_c.proofs.Images.{coupon_in_bytes, coupon_in_registers, refuses_argument, refuses_memory}
 use Rattle.hll_c.proofs.image.with_coupon.Goals as goal
 

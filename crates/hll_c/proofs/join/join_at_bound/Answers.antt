@@ -8,7 +8,7 @@ use Rattle.hll_state.specs.declared.header.Header.{Header}
 use Rattle.hll_state.proofs.States.{merge_fits}
 use Rattle.hll_c.specs.States.{JoinsUnder, no_room_at_bound}
 use Rattle.hll_c.proofs.AtBound.{joins_new, enough_for_new}
-use Rattle.hll_c.proofs.Batches.{not_so}
+use Rattle.hll_c.proofs.Answers.{not_so}
 use Rattle.hll_c.proofs.join.join_at_bound.Goals as goal
 
 pub too_small-requires : goal.too_small-requires

@@ -18,7 +18,7 @@ returns-in_default c =
 pub returns-in-Some-compact_image : goal.returns-in-Some-compact_image
 returns-in-Some-compact_image c =
     let y : Sketch = sketch_of_coupons c.in-Some-compact_image.coupons in
-    image_read y c.in-Some-compact_image.ensures
+    image_read y c.in-Some-compact_image.ensures.some
     (subst (λ widths. JoinsUnder c.args.lg_max_k widths y c.args.state.now c.join.new.state c.args.size.now c.join.new.size c.join.result) c.bit_of-widths.ensures.is c.join.ensures)
 
 pub returns-in-Ok : goal.returns-in-Ok

@@ -15,7 +15,7 @@ use Rattle.hll_c.proofs.union.union_of.Goals as goal
 
 pub returns-in_err-lg_max_k-clause-err : goal.returns-in_err-lg_max_k-clause-err
 returns-in_err-lg_max_k-clause-err g c =
-    let all : List (List ℕ) = g.I.Images.images c.args.images.now in
+    let all : List (List ℕ) = g.S.Strings.strings c.args.images.now in
     let f : ℕ = c.args.failed.now in
     let e = c.in_err-lg_max_k in
     let Are = AreUnionArguments c.args.lg_max_k c.args.width in
@@ -24,7 +24,7 @@ returns-in_err-lg_max_k-clause-err g c =
 
 pub returns-in_err-hll_type-clause-err : goal.returns-in_err-hll_type-clause-err
 returns-in_err-hll_type-clause-err g c =
-    let all : List (List ℕ) = g.I.Images.images c.args.images.now in
+    let all : List (List ℕ) = g.S.Strings.strings c.args.images.now in
     let f : ℕ = c.args.failed.now in
     let e = c.in_err-hll_type in
     let Are = AreUnionArguments c.args.lg_max_k c.args.width in
@@ -33,7 +33,7 @@ returns-in_err-hll_type-clause-err g c =
 
 pub returns-in_err-image-clause-err : goal.returns-in_err-image-clause-err
 returns-in_err-image-clause-err g c =
-    let all : List (List ℕ) = g.I.Images.images c.args.images.now in
+    let all : List (List ℕ) = g.S.Strings.strings c.args.images.now in
     let Are = AreUnionArguments c.args.lg_max_k c.args.width in
     let are : Are = record { lg_max_k_is = c.in_ok-lg_max_k.ensures.ok.1; width_is = record { width = c.in_ok-hll_type.hll_type; is = c.in_ok-hll_type.ensures.ok } } in
     let f : ℕ = c.args.failed.now in
@@ -44,7 +44,7 @@ returns-in_err-image-clause-err g c =
 
 pub returns-in-Some-clause-ok : goal.returns-in-Some-clause-ok
 returns-in-Some-clause-ok g c =
-    let all : List (List ℕ) = g.I.Images.images c.args.images.now in
+    let all : List (List ℕ) = g.S.Strings.strings c.args.images.now in
     let items : List ℕ = c.in-Some.image.items in
     let k : ℕ = c.in_ok-lg_max_k.lg_max_k in
     let bits : ℕ = bits_of c.in_ok-hll_type.hll_type in
@@ -55,7 +55,7 @@ returns-in-Some-clause-ok g c =
 
 pub returns-in_err-merge_in_all-clause-err : goal.returns-in_err-merge_in_all-clause-err
 returns-in_err-merge_in_all-clause-err g c =
-    let all : List (List ℕ) = g.I.Images.images c.args.images.now in
+    let all : List (List ℕ) = g.S.Strings.strings c.args.images.now in
     let e = c.in_err-merge_in_all in
     let Are = AreUnionArguments c.args.lg_max_k c.args.width in
     let are : Are = record { lg_max_k_is = c.in_ok-lg_max_k.ensures.ok.1; width_is = record { width = c.in_ok-hll_type.hll_type; is = c.in_ok-hll_type.ensures.ok } } in
@@ -65,7 +65,7 @@ returns-in_err-merge_in_all-clause-err g c =
 pub returns-clause-ok : goal.returns-clause-ok
 returns-clause-ok g c =
     let k : ℕ = c.args.lg_max_k in
-    let all : List (List ℕ) = g.I.Images.images c.args.images.now in
+    let all : List (List ℕ) = g.S.Strings.strings c.args.images.now in
     let Are = AreUnionArguments k c.args.width in
     let are : Are = record { lg_max_k_is = c.in_ok-lg_max_k.ensures.ok.1; width_is = record { width = c.in_ok-hll_type.hll_type; is = c.in_ok-hll_type.ensures.ok } } in
     let Made = IsUnionOf k c.args.width all c.args.failed.now c.merge_in_all.new.failed in
@@ -80,7 +80,7 @@ returns-clause-ok g c =
 
 pub returns-clause-err : goal.returns-clause-err
 returns-clause-err g c =
-    let all : List (List ℕ) = g.I.Images.images c.args.images.now in
+    let all : List (List ℕ) = g.S.Strings.strings c.args.images.now in
     let Are = AreUnionArguments c.args.lg_max_k c.args.width in
     let are : Are = record { lg_max_k_is = c.in_ok-lg_max_k.ensures.ok.1; width_is = record { width = c.in_ok-hll_type.hll_type; is = c.in_ok-hll_type.ensures.ok } } in
     let taken = c.in_ok-merge_in_all.ensures.ok in

@@ -1,5 +1,5 @@
 -- SPDX-License-Identifier: Apache-2.0
-use Rattle.std.proofs.Common.{◌≡◌, ℕ, ◌+◌, ◌^◌, ◌≤◌, List, length, take, drop, All, refl, sym, ap, subst, ◌∙◌, arith}
+use Rattle.std.proofs.Common.{◌≡◌, ℕ, ◌+◌, ◌^◌, ◌≤◌, List, length, take, drop, All, None, Some, refl, sym, ap, subst, ◌∙◌, arith}
 use Rattle.std.proofs.lemmas.List.{take_rest, length-drop, length-take-le}
 use Rattle.hll_base.specs.declared.error.Reason.TheVariants.{Register}
 use Rattle.hll_registers.specs.Payload.{state_at, HasPlainCounts, IsHll8Payload, FirstHll8Fault}
@@ -18,8 +18,8 @@ use Rattle.hll_images.proofs.register_bytes.register_bytes_after.Goals as goal
 abbrev AreAt : ℕ → List ℕ → List ℕ → Type 0
 AreAt k R payload = HasPlainCounts k payload × (32 + 2 ^ k ≤ length payload) × (R ≡ take (2 ^ k) (drop 32 payload))
 
-pub returns-in-Ok : goal.returns-in-Ok
-returns-in-Ok c =
+pub returns-in-Ok-clause-some : goal.returns-in-Ok-clause-some
+returns-in-Ok-clause-some c =
     let b : List ℕ = c.args.image.now in
     let R : List ℕ = c.in-Ok.bytes.now in
     let k : ℕ = lg_k_byte b in
@@ -46,3 +46,12 @@ returns-in-Ok c =
       rejected = λ above. eight_first b Register c.requires.has c.requires.width
           (payload.FirstHll8Fault.register counts given.1 (λ small. above (subst (All (λ v. v ≤ 63)) (sym given.2) small)));
     })
+
+pub returns-in-Err-clause-none : goal.returns-in-Err-clause-none
+returns-in-Err-clause-none c clean =
+    let b : List ℕ = c.args.image.now in
+    let same : c.args.header.lg_k ≡ lg_k_byte b = ap (λ (h : Header). h.lg_k) c.requires.header in
+    let found : FirstHll8Fault (lg_k_byte b) (drop 8 b) c.in-Err.field-0 =
+    subst (λ n. FirstHll8Fault n (drop 8 b) c.in-Err.field-0) same (subst (λ p. FirstHll8Fault c.args.header.lg_k p c.in-Err.field-0) (c.new-payload.ensures ∙ take_rest b 8) c.in-Err.ensures.order) in
+    let fault : None ≡ Some c.in-Err.field-0 = sym clean ∙ eight_first b c.in-Err.field-0 c.requires.has c.requires.width found in
+    absurd (cc)

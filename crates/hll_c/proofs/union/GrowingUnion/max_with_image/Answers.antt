@@ -21,7 +21,7 @@ pub returns-in-Some-max_with_bytes-clause-err : goal.returns-in-Some-max_with_by
 returns-in-Some-max_with_bytes-clause-err c =
     let R : List ℕ = c.in-Some.registers.bytes.now in
     let b : List ℕ = c.args.image.now in
-    let has : HasRegisterBytes b c.in-Some.registers.lg_k R = c.in-Some.ensures in
+    let has : HasRegisterBytes b c.in-Some.registers.lg_k R = c.in-Some.ensures.some in
     let g : ℕ = c.in-Some-max_with_bytes.greatest in
     let high : 63 < g = c.if-greatest-gt-MAX_VALUE.true in
     let above : All (λ v. v ≤ 63) R → ⊥ = λ small. true≢false (sym (small-to R small) ∙ c.in-Some-max_with_bytes.ensures.greatest 63 ∙ lt-leb g high) in
@@ -31,7 +31,7 @@ pub returns-in-Some-2-clause-ok : goal.returns-in-Some-2-clause-ok
 returns-in-Some-2-clause-ok c _ =
     let R : List ℕ = c.in-Some.registers.bytes.now in
     let b : List ℕ = c.args.image.now in
-    let has : HasRegisterBytes b c.in-Some.registers.lg_k R = c.in-Some.ensures in
+    let has : HasRegisterBytes b c.in-Some.registers.lg_k R = c.in-Some.ensures.some in
     let low : c.in-Some-max_with_bytes.greatest ≤ 63 = c.if-greatest-gt-MAX_VALUE.false in
     let small : All (λ v. v ≤ 63) R = small-from R (c.in-Some-max_with_bytes.ensures.greatest 63 ∙ le-leb c.in-Some-max_with_bytes.greatest 63 low) in
     let of : IsOfRegisters b (record { lg_k = c.in-Some.registers.lg_k; registers = R; state = has.state }) = has.read small in

@@ -21,10 +21,10 @@ fails : {T : Type 0} (image : List ℕ) (x : Sketch) (r : Result T Reason) → I
 fails image x r read memory = IfErr-weaker r _ (IsRefusal image) (λ e is. record { first = inl is; asked = λ _. no_size_fault image x read }) memory
 
 pub update-requires : goal.update-requires
-update-requires c = read_is_legal c.args.image.now (sketch_of_coupons c.in-Some.coupons) (bytes c.args.image.now (λ i within. omega (arith, c.type_inv.image i))) c.in-Some.ensures
+update-requires c = read_is_legal c.args.image.now (sketch_of_coupons c.in-Some.coupons) (bytes c.args.image.now (λ i within. omega (arith, c.type_inv.image i))) c.in-Some.ensures.some
 
 pub returns-in-Some-clause-err : goal.returns-in-Some-clause-err
-returns-in-Some-clause-err c = fails c.args.image.now (sketch_of_coupons c.in-Some.coupons) c.update.result c.in-Some.ensures c.update.ensures.err
+returns-in-Some-clause-err c = fails c.args.image.now (sketch_of_coupons c.in-Some.coupons) c.update.result c.in-Some.ensures.some c.update.ensures.err
 
 pub update-requires-2 : goal.update-requires-2
 update-requires-2 c = read_is_legal c.args.image.now (sketch_of_borrowed c.in_ok-image.image) (bytes c.args.image.now (λ i within. omega (arith, c.type_inv.image i))) c.in_ok-image.ensures.ok

@@ -20,13 +20,13 @@ use Rattle.hll_state.proofs.header.Header.max_with_bytes.Goals as goal
 
 pub max_with_bytes-greatest-requires-clause-size : goal.max_with_bytes-greatest-requires-clause-size
 max_with_bytes-greatest-requires-clause-size c =
-    let found = c.has_registers_at.ensures c.if-not-has_registers_at.false in
+    let found = c.has_registers_at.ensures.has c.if-not-has_registers_at.false in
     let here : 2 ^ (c.args.lg_k - 2) ≤ length c.args.body.now = there c.args.self.now c.args.lg_k (length c.args.body.now) found.2.0 found.0 found.2.1 c.requires.within.held in
     omega (arith, c.requires.size, length-take-le c.two_to.result c.args.body.now (omega (arith, here, c.two_to.ensures)), c.two_to.ensures, four_each c.args.lg_k (omega (arith, found.1)))
 
 pub max_with_bytes-greatest-requires-clause-sixteens : goal.max_with_bytes-greatest-requires-clause-sixteens
 max_with_bytes-greatest-requires-clause-sixteens c =
-    let found = c.has_registers_at.ensures c.if-not-has_registers_at.false in
+    let found = c.has_registers_at.ensures.has c.if-not-has_registers_at.false in
     let here : 2 ^ (c.args.lg_k - 2) ≤ length c.args.body.now = there c.args.self.now c.args.lg_k (length c.args.body.now) found.2.0 found.0 found.2.1 c.requires.within.held in
     let long : length (take c.two_to.result c.args.body.now) ≡ 2 ^ (c.args.lg_k - 2) = length-take-le c.two_to.result c.args.body.now (omega (arith, here, c.two_to.ensures)) ∙ c.two_to.ensures in
     whole_blocks (length (take c.two_to.result c.args.body.now)) c.args.lg_k long (omega (arith, long, many c.args.lg_k found.1))
@@ -37,7 +37,7 @@ returns-then-greatest-gt0-clause-merged c y t k is some =
     let body = c.args.body.now in
     let Q : List ℕ = c.args.bytes.now in
     let n : ℕ = c.two_to.result in
-    let found = c.has_registers_at.ensures c.if-not-has_registers_at.false in
+    let found = c.has_registers_at.ensures.has c.if-not-has_registers_at.false in
     let here : 2 ^ (c.args.lg_k - 2) ≤ length body = there h c.args.lg_k (length body) found.2.0 found.0 found.2.1 c.requires.within.held in
     let at : n ≡ 2 ^ (h.lg_k - 2) = c.two_to.ensures ∙ ap (λ m. 2 ^ (m - 2)) (sym found.0) in
     let size : length Q ≡ 2 ^ h.lg_k = c.requires.size ∙ ap (λ m. 2 ^ m) (sym found.0) in
@@ -54,7 +54,7 @@ returns-else-greatest-gt0-clause-merged c y t k is some =
     let body = c.args.body.now in
     let Q : List ℕ = c.args.bytes.now in
     let n : ℕ = c.two_to.result in
-    let found = c.has_registers_at.ensures c.if-not-has_registers_at.false in
+    let found = c.has_registers_at.ensures.has c.if-not-has_registers_at.false in
     let here : 2 ^ (c.args.lg_k - 2) ≤ length body = there h c.args.lg_k (length body) found.2.0 found.0 found.2.1 c.requires.within.held in
     let at : n ≡ 2 ^ (h.lg_k - 2) = c.two_to.ensures ∙ ap (λ m. 2 ^ (m - 2)) (sym found.0) in
     let size : length Q ≡ 2 ^ h.lg_k = c.requires.size ∙ ap (λ m. 2 ^ m) (sym found.0) in
@@ -71,10 +71,10 @@ returns-else-greatest-gt0-clause-merged c y t k is some =
 
 pub returns-then-greatest-gt0-clause-registers : goal.returns-then-greatest-gt0-clause-registers
 returns-then-greatest-gt0-clause-registers c =
-    let found = c.has_registers_at.ensures c.if-not-has_registers_at.false in
+    let found = c.has_registers_at.ensures.has c.if-not-has_registers_at.false in
     ap (λ x. in_registers (content_of c.args.self.now.lg_k x c.args.body.now)) found.2.1
 
 pub returns-else-greatest-gt0-clause-registers : goal.returns-else-greatest-gt0-clause-registers
 returns-else-greatest-gt0-clause-registers c =
-    let found = c.has_registers_at.ensures c.if-not-has_registers_at.false in
+    let found = c.has_registers_at.ensures.has c.if-not-has_registers_at.false in
     ap (λ x. in_registers (content_of c.args.self.now.lg_k x c.args.body.now)) found.2.1

@@ -16,20 +16,20 @@ use Rattle.hll_state.proofs.header.Header.max_with_few_exceptions.Goals as goal
 
 pub max_with_few_exceptions-requires-clause-most : goal.max_with_few_exceptions-requires-clause-most
 max_with_few_exceptions-requires-clause-most c =
-    let found = c.has_registers_at.ensures c.if-not-has_registers_at.false in
+    let found = c.has_registers_at.ensures.has c.if-not-has_registers_at.false in
     omega (arith, found.0, c.requires.within.lg_k.high)
 
 pub max_with_few_exceptions-requires-clause-size : goal.max_with_few_exceptions-requires-clause-size
 max_with_few_exceptions-requires-clause-size c =
     let k : ℕ = c.args.few.now.lg_k in
-    let found = c.has_registers_at.ensures c.if-not-has_registers_at.false in
+    let found = c.has_registers_at.ensures.has c.if-not-has_registers_at.false in
     let here : 2 ^ (k - 2) ≤ length c.args.body.now = there c.args.self.now k (length c.args.body.now) found.2.0 found.0 found.2.1 c.requires.within.held in
     length-take-le c.two_to.result c.args.body.now (omega (arith, here, c.two_to.ensures)) ∙ c.two_to.ensures
 
 pub max_with_few_exceptions-requires-clause-many : goal.max_with_few_exceptions-requires-clause-many
 max_with_few_exceptions-requires-clause-many c =
     let k : ℕ = c.args.few.now.lg_k in
-    let found = c.has_registers_at.ensures c.if-not-has_registers_at.false in
+    let found = c.has_registers_at.ensures.has c.if-not-has_registers_at.false in
     let here : 2 ^ (k - 2) ≤ length c.args.body.now = there c.args.self.now k (length c.args.body.now) found.2.0 found.0 found.2.1 c.requires.within.held in
     omega (arith, length-take-le c.two_to.result c.args.body.now (omega (arith, here, c.two_to.ensures)), c.two_to.ensures, many k found.1)
 
@@ -40,7 +40,7 @@ returns-clause-merged c _ y t k is some =
     let e : ℕ = c.args.few.now.lg_k in
     let Q : List ℕ = registers_with e c.args.few.now.minimum c.args.few.now.nibbles.now (raws c.args.few.now.entries.now) in
     let n : ℕ = c.two_to.result in
-    let found = c.has_registers_at.ensures c.if-not-has_registers_at.false in
+    let found = c.has_registers_at.ensures.has c.if-not-has_registers_at.false in
     let here : 2 ^ (e - 2) ≤ length body = there h e (length body) found.2.0 found.0 found.2.1 c.requires.within.held in
     let at : n ≡ 2 ^ (h.lg_k - 2) = c.two_to.ensures ∙ ap (λ m. 2 ^ (m - 2)) (sym found.0) in
     let size : length Q ≡ 2 ^ h.lg_k = length-registers_with e c.args.few.now.minimum c.args.few.now.nibbles.now (raws c.args.few.now.entries.now) c.requires.parts ∙ ap (λ m. 2 ^ m) (sym found.0) in
@@ -53,5 +53,5 @@ returns-clause-merged c _ y t k is some =
 
 pub returns-clause-registers : goal.returns-clause-registers
 returns-clause-registers c _ =
-    let found = c.has_registers_at.ensures c.if-not-has_registers_at.false in
+    let found = c.has_registers_at.ensures.has c.if-not-has_registers_at.false in
     ap (λ x. in_registers (content_of c.args.self.now.lg_k x c.args.body.now)) found.2.1

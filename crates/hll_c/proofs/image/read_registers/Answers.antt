@@ -1,0 +1,6 @@
+-- SPDX-License-Identifier: Apache-2.0
+use Rattle.std.proofs.Common.{sym, ◌∙◌}
+use Rattle.hll_c.proofs.image.read_registers.Goals as goal
+
+pub returns-in-Err-clause-plain : goal.returns-in-Err-clause-plain
+returns-in-Err-clause-plain c memory plain = c.in-Err.ensures.plain (sym c.refused_at.ensures.same ∙ memory) plain
