@@ -407,6 +407,8 @@ def has_test(part, word):
 
 def faults_of_others(code):
     for words in calls_of(r"\./check", code):
+        if words[:1] == ["foreign"]:    # a folder of images follows
+            continue
         options, parts = parts_of_check()
         part = None
         for word in words:
