@@ -45,7 +45,8 @@ TOOLCHAIN = {"check", "ci", "doc", "lib", "must-fail", "plant", "run", "test", "
 KNOWN = {"as_chunks_mut", "current_date", "postgres_fdw", "async_capable", "CURRENT_DATE",
          "hll_sketch_alloc", "get_allocator",      # of datasketches-cpp
          "large_string", "to_parquet",             # of pyarrow and pandas
-         "hll_sketch_agg", "stringEncoding",       # of Spark and Druid
+         "hll_sketch_agg", "stringEncoding", "HLLSketchBuild", "HLLSketchMerge",       # of Spark and Druid
+         "DataToSketchUDAF", "HLL_EXPORT", "sketch_hll", "uniqHLL12",      # of Hive, Snowflake, DuckDB and ClickHouse
          "approx_count_distinct",                  # of Spark, DuckDB, Snowflake and others
          "hll_sketch_build", "hll_sketch_union", "hll_sketch_get_estimate", "hll_sketch_get_estimate_and_bounds"}
 SKIPPED_FOLDERS = {"out", "build", "dist", ".git", "target", "__pycache__"}
