@@ -1,3 +1,3 @@
-module hll
+module cimbarohe.invalid/hll
 
 go 1.19

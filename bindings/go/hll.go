@@ -1,5 +1,7 @@
 // SPDX-License-Identifier: Apache-2.0
 
+//go:build linux && (amd64 || arm64)
+
 // Package hll counts distinct values with HyperLogLog sketches in the format of Apache DataSketches, and merges them, over the
 // C library libhll.
 //
@@ -139,8 +141,8 @@ func New(lgK int) (*Sketch, error) {
 // NewUnion returns an empty sketch into which sketches of every lg_k are merged. Its lg_k is lgMaxK, or the smallest lg_k of
 // a merged sketch with registers, if that is smaller.
 func NewUnion(lgMaxK int) (*Sketch, error) {
-	if lgMaxK < 4 || lgMaxK > 21 {
-		return nil, fmt.Errorf("lg_k is %d; it must be 4 to 21", lgMaxK)
+	if err := checkLgK(lgMaxK); err != nil {
+		return nil, err
 	}
 	made, err := newCounter(lgMaxK)
 	return &Sketch{counter: made}, err
@@ -296,6 +298,59 @@ func (s *Sketch) Merge(other *Sketch) error {
 	return s.joined(C.hll_counter_join_counter(&s.counter.c, &other.counter.c), other.LgK(), 0)
 }
 
+// UnionImages returns the image of the union of images at a width, without making a sketch of each. Sketches of every lg_k are
+// merged: the lg_k of the union is lgMaxK, or the smallest lg_k of an image with registers, if that is smaller. The union of no images
+// is the empty sketch of lgMaxK. It copies the images into one slice. The error for an image that is rejected names its index, and
+// errors.As finds the *ImageError in it.
+func UnionImages(lgMaxK int, width Width, images [][]byte) ([]byte, error) {
+	if err := checkWidth(width); err != nil {
+		return nil, err
+	}
+	if err := checkLgK(lgMaxK); err != nil {
+		return nil, err
+	}
+	var all []byte
+	ends := make([]C.size_t, len(images)+1) // one more, as &ends[0] has to be there
+	for i, image := range images {
+		if err := checkEnd(image); err != nil {
+			return nil, fmt.Errorf("images[%d]: %w", i, err)
+		}
+		all = append(all, image...)
+		ends[i] = C.size_t(len(all))
+	}
+	for room := 1024; ; {
+		union, size, failed := make([]byte, room), C.size_t(0), C.size_t(0)
+		status := C.hll_images_union(C.uint(lgMaxK), C.uint(width), start(all), C.size_t(len(all)), &ends[0], C.size_t(len(images)),
+			start(union), C.size_t(room), &size, &failed)
+		switch {
+		case status == C.HLL_OK:
+			return union[:size:size], nil
+		case status == C.HLL_BUFFER:
+			room = int(size)
+		case C.HLL_TRUNCATED <= status && status <= C.HLL_REGISTER:
+			return nil, fmt.Errorf("images[%d]: %w", failed, errorOf(status, len(images[failed])))
+		default:
+			return nil, errorOf(status, 0)
+		}
+	}
+}
+
+// checkWidth returns an error for a width that is not 4, 6 or 8.
+func checkWidth(width Width) error {
+	if width != Width4 && width != Width6 && width != Width8 {
+		return fmt.Errorf("the width is %d; it must be 4, 6 or 8", width)
+	}
+	return nil
+}
+
+// checkLgK returns an error for an lg_k outside 4 to 21.
+func checkLgK(lgK int) error {
+	if lgK < 4 || lgK > 21 {
+		return fmt.Errorf("lg_k is %d; it must be 4 to 21", lgK)
+	}
+	return nil
+}
+
 // joined returns the error of a merge. One of different lg_k has both.
 func (s *Sketch) joined(status C.hll_status, otherLgK, size int) error {
 	if status == C.HLL_OTHER_LG_K {
@@ -306,8 +361,8 @@ func (s *Sketch) joined(status C.hll_status, otherLgK, size int) error {
 
 // Image returns the image at a width.
 func (s *Sketch) Image(width Width) ([]byte, error) {
-	if width != Width4 && width != Width6 && width != Width8 {
-		return nil, fmt.Errorf("the width is %d; it must be 4, 6 or 8", width)
+	if err := checkWidth(width); err != nil {
+		return nil, err
 	}
 	if err := s.settle(); err != nil {
 		return nil, err

@@ -446,3 +446,43 @@ func BenchmarkAddInt(b *testing.B) {
 		_ = s.AddInt(int64(i))
 	}
 }
+
+func TestUnionImages(t *testing.T) {
+	image := func(s *Sketch, width Width) []byte { return must[[]byte](t)(s.Image(width)) }
+	parts := [][]byte{image(filled(t, 12, 0, 5), Width8), image(filled(t, 12, 0, 20_000), Width4), image(filled(t, 13, 15_000, 40_000), Width6)}
+	all := must[*Sketch](t)(NewUnion(12))
+	for _, part := range parts {
+		if err := all.MergeImage(part); err != nil {
+			t.Fatal(err)
+		}
+	}
+	for _, width := range []Width{Width4, Width6, Width8} {
+		if !bytes.Equal(must[[]byte](t)(UnionImages(12, width, parts)), image(all, width)) {
+			t.Errorf("another union of %d bits", width)
+		}
+	}
+	none := must[[]byte](t)(UnionImages(10, Width8, nil))
+	if !bytes.Equal(none, image(must[*Sketch](t)(New(10)), Width8)) {
+		t.Error("no images are not the empty sketch")
+	}
+
+	cut, twice := parts[1][:len(parts[1])-1], append(append([]byte(nil), parts[0]...), parts[0]...)
+	for _, bad := range []struct {
+		image  []byte
+		reason string
+	}{{cut, "truncated"}, {twice, "trailing"}, {nil, "truncated"}} {
+		var found *ImageError
+		_, err := UnionImages(12, Width8, [][]byte{parts[0], bad.image, parts[2]})
+		if !errors.As(err, &found) || found.Reason() != bad.reason || !strings.HasPrefix(err.Error(), "images[1]: ") {
+			t.Errorf("%s: %v", bad.reason, err)
+		}
+	}
+	for _, lgK := range []int{3, 22} {
+		if _, err := UnionImages(lgK, Width8, parts); err == nil || !strings.Contains(err.Error(), "4 to 21") {
+			t.Errorf("lg_k %d: %v", lgK, err)
+		}
+	}
+	if _, err := UnionImages(12, 5, parts); err == nil || !strings.Contains(err.Error(), "4, 6 or 8") {
+		t.Errorf("a width of 5: %v", err)
+	}
+}

@@ -14,7 +14,7 @@ import (
 	"io"
 	"os"
 
-	"hll"
+	"cimbarohe.invalid/hll"
 )
 
 func addLines(s *hll.Sketch, from io.Reader) error {

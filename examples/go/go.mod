@@ -2,6 +2,6 @@ module distinct
 
 go 1.19
 
-require hll v0.2.0
+require cimbarohe.invalid/hll v0.2.0
 
-replace hll v0.2.0 => ./hll
+replace cimbarohe.invalid/hll v0.2.0 => ./hll
