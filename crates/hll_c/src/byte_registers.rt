@@ -15,9 +15,8 @@ use crate::arguments::{lg_k_of_number, width_of};
 use crate::coupons::Coupons;
 use crate::info::{HllHistogram, counts_of};
 use hll_arrays::registers::two_to;
-use hll_base::bounds::{MAX_LG_K, MAX_VALUE, MIN_LG_K, SLOT_BITS};
+use hll_base::bounds::{MAX_LG_K, MAX_VALUE, MIN_LG_K};
 use hll_base::error::{Error, Reason};
-use hll_coupons::coupon::Coupon;
 use hll_kernels::kernels::greatest_of;
 use hll_registers::register_slice::RegisterSlice;
 use hll_sketch::max_registers::{fold_in_place, max_registers, merge_image, sketch_in_registers};
@@ -132,9 +131,7 @@ fn max_each<C: Coupons>(registers: &mut [u8], lg_k: u8, coupons: &C)
     ensures { registers.new ≡ join registers.old (fold_to (set_of (C.Coupons.raw_coupons coupons.now)) lg_k) }
 {
     for number in 0..coupons.count() {
-        let raw = coupons.raw_coupon(number);
-        let coupon = Coupon::pack(raw, (raw >> SLOT_BITS) as u8);
-        max_coupon(registers, lg_k, coupon);
+        max_coupon(registers, lg_k, coupons.coupon(number));
     }
 }
 

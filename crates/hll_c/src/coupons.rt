@@ -28,8 +28,8 @@ pub(crate) trait Coupons {
         requires { are self.now }
         ensures { result ≡ length (raw_coupons self.now) };
 
-    /// Returns the raw coupon with this number.
-    fn raw_coupon(&self, number: usize) -> u32
+    /// Returns the coupon with this number.
+    fn coupon(&self, number: usize) -> Coupon
         requires are { are self.now }
         requires within { number < length (raw_coupons self.now) }
         ensures { result ≡ get_or (raw_coupons self.now) number 0 };
@@ -56,8 +56,8 @@ impl<'a, S: Strings> Coupons for CouponsOf<'a, S> {
     }
 
     #[inline(always)]
-    fn raw_coupon(&self, number: usize) -> u32 {
-        Coupon::from_bytes(self.strings.string(number)).raw()
+    fn coupon(&self, number: usize) -> Coupon {
+        Coupon::from_bytes(self.strings.string(number))
     }
 }
 
@@ -82,8 +82,9 @@ impl<'a> Coupons for CouponSlice<'a> {
     }
 
     #[inline(always)]
-    fn raw_coupon(&self, number: usize) -> u32 {
-        self.raw_coupons[number]
+    fn coupon(&self, number: usize) -> Coupon {
+        let raw = self.raw_coupons[number];
+        Coupon::pack(raw, (raw >> SLOT_BITS) as u8)
     }
 }
 
@@ -122,6 +123,6 @@ pub(crate) fn put_each<C: Coupons>(coupons: &C, first: usize, out: &mut [u32])
     ensures { out.new ≡ take (length out.old) (drop first (C.Coupons.raw_coupons coupons.now)) }
 {
     for number in 0..out.len() {
-        out[number] = coupons.raw_coupon(first + number);
+        out[number] = coupons.coupon(first + number).raw();
     }
 }

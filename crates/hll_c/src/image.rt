@@ -263,13 +263,27 @@ pub(crate) fn folded(alloc: Global, image: &[u8], lg_k: u32) -> Result<Vec<u8>, 
     ensures err { IfErr result (λ e. RefusesFold lg_k image.now e) }
 {
     let target = lg_k_of_number(lg_k)?;
-    if let Some(written) = folded_coupon_image(alloc, target, image)? {
-        return Ok(written);
-    }
-    if let Some(written) = folded_to_registers(alloc, image, target)? {
+    if let Some(written) = folded_coupons(alloc, image, target)? {
         return Ok(written);
     }
     image_with_fields(folded_sketch(alloc, image, target)?)
+}
+
+/// Returns an image of coupons folded to an `lg_k`, without making a table. Returns `None` for images of registers, and if neither
+/// `folded_coupon_image` nor `folded_coupon_registers` does it.
+fn folded_coupons(alloc: Global, image: &[u8], lg_k: u8) -> Result<Option<Vec<u8>>, Error>
+    requires { IsLgK lg_k }
+    ensures some { IfOk result (λ found. IfSome found (λ written. IsImageOf (WithFields (IsMadeOf image.now (IsFoldOf lg_k))) written.items)) }
+    ensures read { OnErr result ((x : Sketch) × IsReadAs image.now x) }
+    ensures err { IfErr result (λ e. e ≡ reasons.Memory) }
+{
+    if says_registers(image) {
+        return Ok(None);
+    }
+    if let Some(written) = folded_coupon_image(alloc, lg_k, image)? {
+        return Ok(Some(written));
+    }
+    folded_to_registers(alloc, image, lg_k)
 }
 
 /// Returns the image folded to an `lg_k` at which its coupons become registers, without making a table. Returns `None` if

@@ -107,7 +107,7 @@ fn push_each<C: Coupons>(header: &mut Header, body: &mut [[u8; 4]], coupons: &C)
     ensures grows { IsGrownBy (length (C.Coupons.raw_coupons coupons.now)) header.old header.new }
 {
     for number in 0..coupons.count() {
-        header.push(body, coupons.raw_coupon(number));
+        header.push(body, coupons.coupon(number).raw());
     }
 }
 

@@ -1,8 +1,8 @@
 -- SPDX-License-Identifier: Apache-2.0
-use Rattle.std.proofs.Common.{◌≡◌, ℕ, ◌/◌, ◌^◌, List, [], ◌∷◌, refl, ap, ◌∙◌, arith}
+use Rattle.std.proofs.Common.{ℕ, List, [], ◌∷◌, refl, ap, ◌∙◌, arith}
 use Rattle.hll_base.specs.Join.{join}
 use Rattle.hll_coupons.specs.Fold.{fold_to}
-use Rattle.hll_coupons.specs.Pair.{set_of, slot_of, pair}
+use Rattle.hll_coupons.specs.Pair.{set_of}
 use Rattle.hll_state.proofs.Promoting.{coupons_more, coupons_all}
 use Rattle.hll_c.proofs.byte_registers.max_each.Goals as goal
 
@@ -13,10 +13,8 @@ pub loop-number-preserved : goal.loop-number-preserved
 loop-number-preserved g c =
     let k : ℕ = c.args.lg_k in
     let cs : List ℕ = g.C.Coupons.raw_coupons c.args.coupons.now in
-    let raw : ℕ = c.raw_coupon-raw.result in
-    let coupon : c.pack-coupon.result ≡ raw = c.pack-coupon.ensures ∙ (let e : pair (slot_of raw) (raw / 2 ^ 26) ≡ raw = omega arith in e) in
     coupons_more k c.loop-number.registers c.max_coupon.new.registers cs c.loop-number.number _ (omega (arith, c.loop-number-test.true, c.count-number-end.ensures)) c.loop-number.invariant
-    (c.max_coupon.ensures ∙ ap (λ n. join c.loop-number.registers (fold_to (set_of (n ∷ [])) k)) (coupon ∙ c.raw_coupon-raw.ensures))
+    (c.max_coupon.ensures ∙ ap (λ n. join c.loop-number.registers (fold_to (set_of (n ∷ [])) k)) c.coupon.ensures)
 
 pub returns : goal.returns
 returns g c =

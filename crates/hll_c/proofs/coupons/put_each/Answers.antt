@@ -1,5 +1,5 @@
 -- SPDX-License-Identifier: Apache-2.0
-use Rattle.std.proofs.Common.{arith}
+use Rattle.std.proofs.Common.{◌∙◌, arith}
 use Rattle.hll_c.proofs.CouponsInTurn.{puts_none, puts_next, puts_all}
 use Rattle.hll_c.proofs.coupons.put_each.Goals as goal
 
@@ -8,8 +8,8 @@ loop-number-init g c = puts_none c.args.out.now (g.C.Coupons.raw_coupons c.args.
 
 pub loop-number-preserved : goal.loop-number-preserved
 loop-number-preserved g c =
-    puts_next c.args.out.now c.loop-number.out (g.C.Coupons.raw_coupons c.args.coupons.now) c.args.first c.loop-number.number c.raw_coupon.result
-    (omega (arith, c.loop-number-test.true, c.loop-number.invariant.size)) (omega (arith, c.requires.within, c.loop-number-test.true)) c.raw_coupon.ensures c.loop-number.invariant
+    puts_next c.args.out.now c.loop-number.out (g.C.Coupons.raw_coupons c.args.coupons.now) c.args.first c.loop-number.number c.raw.result
+    (omega (arith, c.loop-number-test.true, c.loop-number.invariant.size)) (omega (arith, c.requires.within, c.loop-number-test.true)) (c.raw.ensures ∙ c.coupon.ensures) c.loop-number.invariant
 
 pub returns : goal.returns
 returns g c =

@@ -3,13 +3,12 @@ use Rattle.std.proofs.Common.{subst}
 use Rattle.std.specs.Option.{IfSome}
 use Rattle.std.proofs.lemmas.Result.{IfOk-weaker, IfErr-weaker}
 use Rattle.hll_base.proofs.Errors.{IfErr-passed}
-use Rattle.hll_images.specs.CouponImages.{IsFoldedImage}
 use Rattle.hll_sketch.specs.Layout.{sketch_of}
 use Rattle.hll_sketch.specs.Value.{IsLgK}
 use Rattle.hll_c.specs.Answers.{IsImageOf, WithFields, image_refused}
 use Rattle.hll_c.specs.Calls.{IsMadeOf, IsFoldOf, RefusesFold, with}
 use Rattle.hll_c.proofs.Answers.{made_with_fields}
-use Rattle.hll_c.proofs.Images.{fold_in_bytes, refuses_argument, refuses_memory}
+use Rattle.hll_c.proofs.Images.{refuses_argument, refuses_memory}
 use Rattle.hll_c.proofs.image.folded.Goals as goal
 
 pub returns-in_err-target-clause-err : goal.returns-in_err-target-clause-err
@@ -24,16 +23,11 @@ returns-in_err-written-clause-err c =
     IfErr-passed (RefusesFold c.args.lg_k c.args.image.now) c.from_residual-in_err-written.result e.field-0.0 c.from_residual-in_err-written.ensures.1
     (with (image_refused c.in_ok-target.ensures.ok.1 (refuses_memory c.args.image.now e.ensures.read.0 e.field-0.0 e.ensures.read.1 e.ensures.err)))
 
-pub returns-in_err-written-2-clause-err : goal.returns-in_err-written-2-clause-err
-returns-in_err-written-2-clause-err c =
-    let e = c.in_err-written-2 in
-    IfErr-passed (RefusesFold c.args.lg_k c.args.image.now) c.from_residual-in_err-written-2.result e.field-0.0 c.from_residual-in_err-written-2.ensures.1
-    (with (image_refused c.in_ok-target.ensures.ok.1 (refuses_memory c.args.image.now e.ensures.read.0 e.field-0.0 e.ensures.read.1 e.ensures.err)))
-
 pub returns-in-Some-clause-ok : goal.returns-in-Some-clause-ok
 returns-in-Some-clause-ok c =
-    fold_in_bytes c.args.lg_k c.in_ok-target.target c.args.image.now c.in-Some.written.items c.in_ok-target.ensures.ok.1 c.in_ok-target.ensures.ok.0
-    (subst (λ o. IfSome o (λ written. IsFoldedImage c.in_ok-target.target c.args.image.now written.items)) c.in-Some.is c.in_ok-written.ensures.some)
+    let items = c.in-Some.written.items in
+    subst (λ k. IsImageOf (WithFields (IsMadeOf c.args.image.now (IsFoldOf k))) items) c.in_ok-target.ensures.ok.0
+    (subst (λ o. IfSome o (λ written. IsImageOf (WithFields (IsMadeOf c.args.image.now (IsFoldOf c.in_ok-target.target))) written.items)) c.in-Some.is c.in_ok-written.ensures.some)
 
 pub returns-in_err-folded_sketch-clause-err : goal.returns-in_err-folded_sketch-clause-err
 returns-in_err-folded_sketch-clause-err c =

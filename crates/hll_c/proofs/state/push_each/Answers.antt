@@ -1,5 +1,5 @@
 -- SPDX-License-Identifier: Apache-2.0
-use Rattle.std.proofs.Common.{◌+◌, ◌-◌, List, ℕ, length, refl, sym, subst, arith}
+use Rattle.std.proofs.Common.{◌+◌, ◌-◌, List, ℕ, length, refl, sym, subst, ◌∙◌, arith}
 use Rattle.hll_state.specs.Header.{IsWithin}
 use Rattle.hll_c.proofs.States.{pushed, all_pushed, none_left}
 use Rattle.hll_state.proofs.Rooms.{room_fewer}
@@ -21,7 +21,7 @@ push-requires-clause-room g c =
 pub loop-number-preserved : goal.loop-number-preserved
 loop-number-preserved g c =
     pushed c.args.header.now c.args.body.now c.loop-number.header c.push.new.self c.loop-number.body c.push.new.body (g.C.Coupons.raw_coupons c.args.coupons.now) c.loop-number.number 0 _
-    (omega (arith, c.loop-number-test.true, c.count-number-end.ensures)) (sym c.raw_coupon.ensures)
+    (omega (arith, c.loop-number-test.true, c.count-number-end.ensures)) (sym (c.raw.ensures ∙ c.coupon.ensures))
     c.loop-number.invariant c.push.auto.body c.push.ensures.within c.push.ensures.room c.push.ensures.added c.push.ensures.widths
 
 pub returns : goal.returns
