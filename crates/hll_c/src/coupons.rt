@@ -36,7 +36,7 @@ pub(crate) trait Coupons {
 }
 
 /// The coupons of byte strings.
-#[derive(Clone, Copy)]
+#[derive(Drop)]
 pub(crate) struct CouponsOf<'a, S: Strings> {
     /// The strings.
     pub strings: &'a S,
