@@ -13,7 +13,7 @@ from __future__ import annotations
 
 import enum
 import math
-from typing import Any, Callable, Tuple, Type, TypeVar, Union
+from typing import Callable, Tuple, Type, TypeVar, Union
 
 from .sketch import Buffer, Sketch
 from .union import SketchUnion
@@ -34,7 +34,7 @@ class tgt_hll_type(enum.Enum):
 class _Counter:
     """What a sketch and a union have in common."""
 
-    _counter: Any
+    _counter: Union[Sketch, SketchUnion]
 
     @classmethod
     def _of(cls: Type[_C], counter: Union[Sketch, SketchUnion]) -> _C:
