@@ -125,6 +125,8 @@ pub(crate) fn add<C: Coupons>(registers: &mut [u8], coupons: &C) -> u8
 }
 
 /// Adds coupons to registers.
+// (inlined, as `put_each` is)
+#[inline(always)]
 fn max_each<C: Coupons>(registers: &mut [u8], lg_k: u8, coupons: &C)
     requires lg_k { IsLgKOf registers.old lg_k }
     requires are { C.Coupons.are coupons.now }

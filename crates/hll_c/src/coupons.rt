@@ -116,6 +116,8 @@ pub(crate) fn put_coupons<C: Coupons>(coupons: &C, out: &mut [u32]) -> u8
 }
 
 /// Fills `out` with the coupons from number `first` on.
+// (inlined: a caller knows what the batch is made of, and keeps its slices in processor registers)
+#[inline(always)]
 pub(crate) fn put_each<C: Coupons>(coupons: &C, first: usize, out: &mut [u32])
     requires are { C.Coupons.are coupons.now }
     requires within { first + length out.old ≤ length (C.Coupons.raw_coupons coupons.now) }

@@ -98,6 +98,8 @@ pub(crate) fn add<C: Coupons>(state: &mut [[u8; 4]], coupons: &C, size: &mut usi
 }
 
 /// Adds coupons. There is room for them.
+// (inlined, as `put_each` is)
+#[inline(always)]
 fn push_each<C: Coupons>(header: &mut Header, body: &mut [[u8; 4]], coupons: &C)
     requires are { C.Coupons.are coupons.now }
     requires within { IsWithin header.old (length body.old) }
