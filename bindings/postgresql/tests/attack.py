@@ -138,6 +138,9 @@ def uses(own, short):
         for value in COUNTED:
             yield "SET search_path = pg_catalog; SELECT %s.hyperloglog_agg(%s%s), %s.hll_image_add_agg(%s%s), %s.hll_add_agg(%s%s) " \
                 "FROM safe.sketches; SET search_path = mallory, public;" % (own, value, more, own, value, more, short, value, more)
+    for value, more in itertools.product(("x", "t", "image", *COUNTED), OPTIONS[:2]):
+        yield "SET search_path = pg_catalog; SELECT n, %s.hll_count_distinct(%s%s) FROM safe.sketches GROUP BY n ORDER BY n; " \
+            "SET search_path = mallory, public;" % (own, value, more)
     for agg, arguments, more in itertools.product(
             (own + ".hll_image_%s_agg", short + ".hll_%s_agg"), ("image", "t", "x"), OPTIONS):
         for kind in ("union", "add") if arguments == "image" else ("add",):

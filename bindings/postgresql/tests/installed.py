@@ -43,7 +43,7 @@ def beside_peer(server):
             ("hll_cardinality(hll_union_agg(p)) FROM (SELECT hll_add_agg(hll_hash_bigint(x)) p FROM x) s", "3"),
             ("hll_estimate(hll_image_union_agg(i))::int FROM (SELECT hll_image_add_agg(x) i FROM x) s", "3"),
             ("(# hyperloglog_union_agg(i))::int FROM (SELECT hll_image_add_agg(x) i FROM x) s", "3"),
-            ("(# hll_add(hyperloglog_agg(x), 7))::int FROM x", "4"),
+            ("(# hll_add(hyperloglog_agg(x), 7))::int FROM x", "4"), ("hll_count_distinct(x), hll_count_distinct('u' || x, 11) FROM x", "3|3"),
             ("hll_estimate(hll_image_union_agg(i, 10))::int FROM (SELECT hll_image_add_agg('u' || x, 11) i FROM x) s", "3"),
             ("hll_cardinality(hll_add_agg(hll_hash_text('a'), 12, 5))", "1"),
             ("hll_estimate(hll_image_add_agg('a', 12, 6))::int, hll_estimate(hll_image_add_agg(7, 12, 6))::int", "1|1"),
@@ -96,7 +96,7 @@ def marks(server):
     check("functions are many", len(found) > 30, len(found))
     for line in found:
         name, *said = line.split("|")
-        sees_nulls = re.search("_trans|_combine|_final|_agg|^hll_add$", name) is not None
+        sees_nulls = re.search("_trans|_combine|_final|_agg|^hll_add$|^hll_count_distinct$", name) is not None
         equal("marks of " + name, said, ["s" if name in ("hll_version", "hll_processor") else "i", "s", "f" if sees_nulls else "t"])
     server.ask("CREATE DATABASE elsewhere")
     server.ask("""CREATE SCHEMA sketches;

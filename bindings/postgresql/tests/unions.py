@@ -121,9 +121,9 @@ def partial(server):
         ALTER TABLE rows SET (parallel_workers = 3);
         ANALYZE rows""", "partial")
     calls = list(aggregate_calls(server, "partial"))
-    equal("aggregates", len(calls), 6 + 39 + 6 + 39 + 6 + 39)
+    equal("aggregates", len(calls), 6 + 39 + 6 + 39 + 26 + 6 + 39)
     for call in calls:
-        query = "SELECT md5((%s)::bytea) FROM rows" % call
+        query = "SELECT md5((%s)::text) FROM rows" % call
         plan = server.ask(settings(3) + PLAN + query, "partial")
         check("workers for " + call, "Partial Aggregate" in plan and launched(plan) == 3, plan)
         answers = [server.ask(settings(workers) + query, "partial") for workers in (0, 3)]
