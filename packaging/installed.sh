@@ -93,6 +93,7 @@ CREATE EXTENSION hll_sketches;
 SELECT hll_estimate(hll_image_union_agg(image)) BETWEEN 950 AND 1050
 FROM (SELECT hll_image_add_agg(x) image FROM generate_series(1, 1000) x GROUP BY x % 7) days;
 CREATE EXTENSION hll_sketches_agg;
+CREATE EXTENSION hll_sketches_apache;
 SELECT hll_version();
 CREATE TABLE daily AS SELECT day::date, hyperloglog_agg(n) AS image
 FROM generate_series(date '2026-10-30', '2026-11-02', '1 day') day, generate_series(1, 500) n GROUP BY day;

@@ -48,7 +48,7 @@ KNOWN = {"as_chunks_mut", "current_date", "postgres_fdw", "async_capable", "CURR
          "hll_sketch_agg", "stringEncoding", "HLLSketchBuild", "HLLSketchMerge",       # of Spark and Druid
          "DataToSketchUDAF", "HLL_EXPORT", "sketch_hll", "uniqHLL12",      # of Hive, Snowflake, DuckDB and ClickHouse
          "approx_count_distinct",                  # of Spark, DuckDB, Snowflake and others
-         "hll_sketch_build", "hll_sketch_union", "hll_sketch_get_estimate", "hll_sketch_get_estimate_and_bounds"}
+         "hll_sketch_distinct"}                    # of Apache's extension for PostgreSQL
 SKIPPED_FOLDERS = {"out", "build", "dist", ".git", "target", "__pycache__"}
 SOURCES = {".rt", ".antt", ".py", ".c", ".h", ".cpp", ".hpp", ".sh", ".sql", ".rs", ".edit", ".map", ".control", ".toml", ".txt", ".plan", ".cmake", ".go", ".mjs", ".mts", ".html", ""}
 # These pages speak of another library's names.

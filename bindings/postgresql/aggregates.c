@@ -252,3 +252,20 @@ hll_pg_final(PG_FUNCTION_ARGS)
 		PG_RETURN_NULL();
 	PG_RETURN_BYTEA_P(image_of_counter(&group->counter, group->width == 0 ? summary_of(&group->counter).width : group->width));
 }
+
+PG_FUNCTION_INFO_V1(hll_pg_count_final);
+
+/* Returns the rounded estimate: 0 if nothing came, as count does. */
+Datum
+hll_pg_count_final(PG_FUNCTION_ARGS)
+{
+	hll_estimation found = {0};
+	Group	   *group;
+
+	(void) aggregate_context(fcinfo);
+	group = PG_ARGISNULL(0) ? NULL : (Group *) PG_GETARG_POINTER(0);
+	if (group != NULL && has_rows(group))
+		check_status(hll_counter_estimate(&group->counter, &found));
+	/* Full registers have an infinite estimate. */
+	PG_RETURN_INT64(found.estimate < 0x1p62 ? (int64) (found.estimate + 0.5) : PG_INT64_MAX);
+}

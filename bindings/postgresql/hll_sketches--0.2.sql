@@ -229,6 +229,8 @@ CREATE FUNCTION hll_image_final(pg_catalog.internal) RETURNS pg_catalog.bytea
     AS 'MODULE_PATHNAME', 'hll_pg_final' LANGUAGE C IMMUTABLE PARALLEL SAFE COST 100;
 CREATE FUNCTION hyperloglog_final(pg_catalog.internal) RETURNS hyperloglog
     AS 'MODULE_PATHNAME', 'hll_pg_final' LANGUAGE C IMMUTABLE PARALLEL SAFE COST 100;
+CREATE FUNCTION hll_count_final(pg_catalog.internal) RETURNS pg_catalog.int8
+    AS 'MODULE_PATHNAME', 'hll_pg_count_final' LANGUAGE C IMMUTABLE PARALLEL SAFE COST 100;
 
 -- ---- unions: hyperloglog_union_agg(sketch [, lg_max_k [, width]]), which returns the type, and hll_image_union_agg, which
 -- returns bytes; each for the type and for bytes
@@ -258,7 +260,7 @@ END
 $$;
 
 -- ---- values: hyperloglog_agg(value [, lg_k [, width]]), which returns the type, and hll_image_add_agg, which returns bytes;
--- and hll_add(sketch, value)
+-- hll_count_distinct(value [, lg_k]); and hll_add(sketch, value)
 
 -- Each type of values has a step and an addition. A numeric would be cast to a float8, and other types to whatever they can be
 -- cast to. So these are rejected, and sketches too.
@@ -276,7 +278,9 @@ DECLARE
     aggregate CONSTANT pg_catalog.text := 'CREATE AGGREGATE %1$s(value %2$s) (SFUNC = hll_image_add_trans, '
         'STYPE = pg_catalog.internal, SSPACE = 8192, FINALFUNC = %3$s, COMBINEFUNC = hll_image_combine, '
         'SERIALFUNC = hll_image_serial, DESERIALFUNC = hll_image_deserial, PARALLEL = SAFE); '
-        'COMMENT ON AGGREGATE %1$s(%2$s) IS ''the sketch of values''';
+        'COMMENT ON AGGREGATE %1$s(%2$s) IS ''%4$s''';
+    sketch CONSTANT pg_catalog.text := 'the sketch of values';
+    count CONSTANT pg_catalog.text := 'the estimated number of distinct values, rounded';
     addition CONSTANT pg_catalog.text := 'CREATE FUNCTION hll_add(sketch %1$s, value %2$s) RETURNS %1$s '
         'AS ''MODULE_PATHNAME'', ''hll_pg_add_%3$s'' LANGUAGE C IMMUTABLE PARALLEL SAFE COST 100; '
         'COMMENT ON FUNCTION hll_add(%1$s, %2$s) IS ''the sketch with one value more''';
@@ -286,8 +290,11 @@ BEGIN
     FOREACH kind SLICE 1 IN ARRAY kinds LOOP
         FOREACH option IN ARRAY options LOOP
             EXECUTE pg_catalog.format(step, pg_catalog.concat(kind[1], option), kind[2]);
-            EXECUTE pg_catalog.format(aggregate, 'hyperloglog_agg', pg_catalog.concat(kind[1], option), 'hyperloglog_final');
-            EXECUTE pg_catalog.format(aggregate, 'hll_image_add_agg', pg_catalog.concat(kind[1], option), 'hll_image_final');
+            EXECUTE pg_catalog.format(aggregate, 'hyperloglog_agg', pg_catalog.concat(kind[1], option), 'hyperloglog_final', sketch);
+            EXECUTE pg_catalog.format(aggregate, 'hll_image_add_agg', pg_catalog.concat(kind[1], option), 'hll_image_final', sketch);
+        END LOOP;
+        FOREACH option IN ARRAY options[1:2] LOOP
+            EXECUTE pg_catalog.format(aggregate, 'hll_count_distinct', pg_catalog.concat(kind[1], option), 'hll_count_final', count);
         END LOOP;
         EXECUTE pg_catalog.format(addition, 'hyperloglog', kind[1], kind[2]);
         EXECUTE pg_catalog.format(addition, 'pg_catalog.bytea', kind[1], kind[2]);

@@ -1,10 +1,8 @@
 /* SPDX-License-Identifier: Apache-2.0 */
 /*
- * The aggregates hll_image_union_agg and hll_image_add_agg, and their shorter names.
+ * The aggregates of values and of images, which are window functions, too.
  */
 #include "group.h"
-
-#include <string.h>
 
 /* ---- arguments */
 
@@ -53,69 +51,6 @@ static Group *next_row(sqlite3_context *context, int n, sqlite3_value **values, 
     return group->has_failed ? NULL : group;
 }
 
-/* ---- values */
-
-/* (Compilers turn these into one store, but not a loop.) */
-static void put_eight(uint8_t *eight, uint64_t word)
-{
-    eight[0] = (uint8_t)word;
-    eight[1] = (uint8_t)(word >> 8);
-    eight[2] = (uint8_t)(word >> 16);
-    eight[3] = (uint8_t)(word >> 24);
-    eight[4] = (uint8_t)(word >> 32);
-    eight[5] = (uint8_t)(word >> 40);
-    eight[6] = (uint8_t)(word >> 48);
-    eight[7] = (uint8_t)(word >> 56);
-}
-
-/* The binary64 of a real: 0.0 for -0.0. SQLite has no NaN; it stores NULL instead. */
-static uint64_t word_of_real(double real)
-{
-    uint64_t word;
-
-    real += 0.0;
-    memcpy(&word, &real, sizeof word);
-    return word;
-}
-
-/* Returns whether a text has half a surrogate pair, as char(55296) makes: ED and a byte from A0 to BF. UTF-8 has no such bytes. */
-static bool has_half_pair(hll_bytes text)
-{
-    const uint8_t *at = text.bytes, *end = at + text.len;
-
-    while ((at = memchr(at, 0xed, (size_t)(end - at))) != NULL) {
-        at++;
-        if (at < end && *at >= 0xa0 && *at <= 0xbf)
-            return true;
-    }
-    return false;
-}
-
-/* Returns the bytes of a text. */
-static bool text_in(sqlite3_context *context, sqlite3_value *value, hll_bytes *bytes)
-{
-    if (!bytes_in(context, value, bytes))
-        return false;
-    if (!has_half_pair(*bytes))
-        return true;
-    sqlite3_result_error(context, "a TEXT has half a surrogate pair, so it is no UTF-8: leave it out, or count CAST(value AS BLOB)", -1);
-    return false;
-}
-
-/* The bytes that are hashed for a value of this type (docs/FORMAT.md, "What values are hashed as"). Numbers are
- * little-endian. */
-static bool hashed_in(sqlite3_context *context, sqlite3_value *value, int type, uint8_t *eight, hll_bytes *bytes)
-{
-    if (type == SQLITE_TEXT)
-        return text_in(context, value, bytes);
-    if (type == SQLITE_BLOB)
-        return bytes_in(context, value, bytes);
-    put_eight(eight, type == SQLITE_INTEGER ? (uint64_t)sqlite3_value_int64(value) : word_of_real(sqlite3_value_double(value)));
-    bytes->bytes = eight;
-    bytes->len = 8;
-    return true;
-}
-
 /* ---- the aggregates */
 
 static void step_images(sqlite3_context *context, int n, sqlite3_value **values)
@@ -140,14 +75,13 @@ static void step_images(sqlite3_context *context, int n, sqlite3_value **values)
 static void step_values(sqlite3_context *context, int n, sqlite3_value **values)
 {
     Group *group = next_row(context, n, values, &of_values);
-    int type = sqlite3_value_type(values[0]);
     uint8_t eight[8];
     hll_bytes value;
     hll_status status;
 
-    if (group == NULL || type == SQLITE_NULL)
+    if (group == NULL || sqlite3_value_type(values[0]) == SQLITE_NULL)
         return;
-    group->has_failed = !hashed_in(context, values[0], type, eight, &value);
+    group->has_failed = !hashed_in(context, values[0], eight, &value);
     if (group->has_failed)
         return;
     status = add_value(group, value);
@@ -156,48 +90,104 @@ static void step_values(sqlite3_context *context, int n, sqlite3_value **values)
         refuse(context, status, "");
 }
 
-/* Returns the image of a group to SQLite, unless nothing came or an error was returned. */
-static void finish(sqlite3_context *context)
+/* ---- results: of a group, or of the rows of a window so far */
+
+/* Returns the image of the rows so far to SQLite, unless none came or an error was returned. */
+static void answer_sketch(sqlite3_context *context)
 {
     Group *group = sqlite3_aggregate_context(context, 0);
     Output out;
     hll_status status;
 
-    if (group == NULL)
+    if (group == NULL || group->has_failed || !has_rows(group))
         return;
-    if (!group->has_failed && has_rows(group)) {
-        status = write_group(group, &out);
-        if (status == HLL_OK)
-            answer_image(context, &out);
-        else
-            refuse(context, status, "");
-    }
-    free_group(group);
+    status = write_group(group, &out);
+    if (status == HLL_OK)
+        answer_image(context, &out);
+    else
+        refuse(context, status, "");
+}
+
+/* Returns the rounded estimate of the rows so far to SQLite: 0 if none came, as count does. */
+static void answer_count(sqlite3_context *context)
+{
+    Group *group = sqlite3_aggregate_context(context, 0);
+    sqlite3_int64 count = 0;
+    hll_status status = HLL_OK;
+
+    if (group != NULL && group->has_failed)
+        return;
+    if (group != NULL && has_rows(group))
+        status = count_group(group, &count);
+    if (status == HLL_OK)
+        sqlite3_result_int64(context, count);
+    else
+        refuse(context, status, "");
+}
+
+static void end_group(sqlite3_context *context)
+{
+    Group *group = sqlite3_aggregate_context(context, 0);
+
+    if (group != NULL)
+        free_group(group);
+}
+
+static void finish_sketch(sqlite3_context *context)
+{
+    answer_sketch(context);
+    end_group(context);
+}
+
+static void finish_count(sqlite3_context *context)
+{
+    answer_count(context);
+    end_group(context);
+}
+
+/* SQLite calls this if the frame of a window has left a row behind. */
+static void remove_row(sqlite3_context *context, int n, sqlite3_value **values)
+{
+    (void)n;
+    (void)values;
+    sqlite3_result_error(context,
+                         "a sketch can't remove a row, so the frame of a window must start at UNBOUNDED PRECEDING; for a moving "
+                         "frame write a subquery: SELECT day, (SELECT hll_union_agg(image) FROM days WHERE day BETWEEN "
+                         "date(d.day, '-6 days') AND d.day) FROM days AS d",
+                         -1);
 }
 
 /* ---- registration */
 
+typedef void Step(sqlite3_context *context, int n, sqlite3_value **values);
+typedef void Result(sqlite3_context *context);
+
 typedef struct Entry {
     const char *name;
-    void (*step)(sqlite3_context *context, int n, sqlite3_value **values);
+    int most;           /* arguments, of which one is not optional */
+    Step *step;
+    Result *finish;
+    Result *value;      /* of the rows of a window so far */
 } Entry;
 
 static const Entry entries[] = {
-    {"hll_image_union_agg", step_images},
-    {"hll_image_add_agg", step_values},
-    {"hll_union_agg", step_images},
-    {"hll_add_agg", step_values},
+    {"hyperloglog_agg", 3, step_values, finish_sketch, answer_sketch},
+    {"hyperloglog_union_agg", 3, step_images, finish_sketch, answer_sketch},
+    {"hll_image_union_agg", 3, step_images, finish_sketch, answer_sketch},
+    {"hll_image_add_agg", 3, step_values, finish_sketch, answer_sketch},
+    {"hll_union_agg", 3, step_images, finish_sketch, answer_sketch},
+    {"hll_add_agg", 3, step_values, finish_sketch, answer_sketch},
+    {"hll_count_distinct", 2, step_values, finish_count, answer_count},
 };
 
-/* Each has one to three arguments. None can take a row out again, so none is a window function. */
 int register_aggregates(sqlite3 *db)
 {
     int code = SQLITE_OK, n;
     size_t i;
 
     for (i = 0; i < sizeof entries / sizeof *entries; i++)
-        for (n = 1; n <= 3 && code == SQLITE_OK; n++)
-            code = sqlite3_create_function_v2(db, entries[i].name, n, HLL_FLAGS, NULL, NULL, entries[i].step, finish,
-                                              NULL);
+        for (n = 1; n <= entries[i].most && code == SQLITE_OK; n++)
+            code = sqlite3_create_window_function(db, entries[i].name, n, HLL_FLAGS, NULL, entries[i].step, entries[i].finish,
+                                                  entries[i].value, remove_row, NULL);
     return code;
 }

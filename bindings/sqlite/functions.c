@@ -119,6 +119,26 @@ static void set_estimator_fields(sqlite3_context *context, int n, sqlite3_value 
         answer_written(context, write_with_fields, &call, MIN(call.image.len + 64, HLL_IMAGE_MAX(21)));
 }
 
+static hll_status write_added(void *given, Output *out)
+{
+    const Call *call = given;
+
+    return hll_image_add(IMAGE(call->image), IMAGE(call->other), &call->other.len, 1, OUTPUT(out));
+}
+
+/* The image with one more value; for a NULL the image, as aggregates ignore NULL. */
+static void add(sqlite3_context *context, int n, sqlite3_value **values)
+{
+    Call call;
+    uint8_t eight[8];
+
+    (void)n;
+    if (sqlite3_value_type(values[1]) == SQLITE_NULL)
+        sqlite3_result_value(context, values[0]);
+    else if (image_in(context, values[0], 0, &call.image) && hashed_in(context, values[1], eight, &call.other))
+        answer_written(context, write_added, &call, changed_room(call.image));
+}
+
 /* ---- two images */
 
 static bool two_images_in(sqlite3_context *context, sqlite3_value **values, Call *call)
@@ -380,6 +400,7 @@ static const Entry entries[] = {
     {"hll_fold", 2, fold},
     {"hll_convert", 2, convert},
     {"hll_set_estimator_fields", 1, set_estimator_fields},
+    {"hll_add", 2, add},
     {"hll_merge", 2, merge},
     {"hll_merge", 3, merge},
     {"hll_agree", 2, agree},
@@ -395,13 +416,13 @@ static const Entry entries[] = {
     {"hll_processor", 0, processor},
 };
 
-/* Calls the function of an entry. If an argument is NULL, the result is NULL. */
+/* Calls the function of an entry. If an argument is NULL, the result is NULL, but hll_add of a NULL returns the image. */
 static void call_strict(sqlite3_context *context, int n, sqlite3_value **values)
 {
     const Entry *entry = sqlite3_user_data(context);
-    int i;
+    int strict = entry->function == add ? 1 : n, i;
 
-    for (i = 0; i < n; i++)
+    for (i = 0; i < strict; i++)
         if (sqlite3_value_type(values[i]) == SQLITE_NULL)
             return;
     entry->function(context, n, values);

@@ -65,6 +65,16 @@ hll_status write_group(Group *group, Output *out)
     return write_image(write_counter, group, MIN(summary.size, HLL_IMAGE_ROOM(summary.lg_k, 8)), out);
 }
 
+hll_status count_group(const Group *group, sqlite3_int64 *count)
+{
+    hll_estimation found;
+    hll_status status = hll_counter_estimate(&group->counter, &found);
+
+    if (status == HLL_OK)   /* (full registers have an infinite estimate) */
+        *count = found.estimate < 0x1p62 ? (sqlite3_int64)(found.estimate + 0.5) : INT64_MAX;
+    return status;
+}
+
 void free_group(Group *group)
 {
     if (has_rows(group))

@@ -31,6 +31,9 @@ hll_state_summary summary_of(const Group *group);
 /* Writes the image of a group with rows. */
 hll_status write_group(Group *group, Output *out);
 
+/* Writes the estimate of a group with rows, rounded to an integer. */
+hll_status count_group(const Group *group, sqlite3_int64 *count);
+
 void free_group(Group *group);
 
 #endif

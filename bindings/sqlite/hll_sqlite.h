@@ -20,6 +20,9 @@ bool bytes_in(sqlite3_context *context, sqlite3_value *value, hll_bytes *bytes);
 /* Reads an image without bytes after it. `argument` is its number in errors, from 1, if a function has several images, or 0. */
 bool image_in(sqlite3_context *context, sqlite3_value *value, int argument, hll_bytes *image);
 
+/* Reads the bytes that are hashed for a value. Those of a number are little-endian, in `eight`. */
+bool hashed_in(sqlite3_context *context, sqlite3_value *value, uint8_t *eight, hll_bytes *bytes);
+
 bool lg_k_in(sqlite3_context *context, sqlite3_value *value, const char *name, uint8_t *lg_k);
 bool width_in(sqlite3_context *context, sqlite3_value *value, uint8_t *width);
 bool deviations_in(sqlite3_context *context, sqlite3_value *value, int *deviations);

@@ -88,7 +88,7 @@ def plant(server, database, schema, own, more_types=()):
 
 
 def signatures(server, database):
-    """The names and arguments of all functions of both extensions."""
+    """The names and arguments of all functions of the extensions."""
     found = server.ask("""SELECT proname, oidvectortypes(proargtypes) FROM pg_proc JOIN pg_depend ON objid = pg_proc.oid
         JOIN pg_extension e ON refobjid = e.oid WHERE extname ~ '^hll_sketches' AND classid = 'pg_proc'::regclass""", database)
     short = {"integer": "int4", "bigint": "int8", "boolean": "bool"}
@@ -116,6 +116,7 @@ CALLS = ("hll_fault(image)", "hll_is_image(image)", "hll_first_image(image)", "h
              ("hll_info", ""), ("hll_estimate", ""), ("hll_hip_estimate", ""), ("hll_estimate_bounds", ", 2::bigint"), ("hll_fold", ", 5::bigint"),
              ("hll_convert", ", 6::bigint"), ("hll_set_estimator_fields", ""), ("hll_merge", ", typed"), ("hll_merge", ", typed, 10::bigint"), ("hll_agree", ", typed"),
              ("hyperloglog_hash", ""), ("hyperloglog_hash_extended", ", 7::int8"), ("hyperloglog_cmp", ", typed"), ("hyperloglog_send", ""))))
+UPDATE = "ALTER EXTENSION hll_sketches UPDATE; ALTER EXTENSION hll_sketches_agg UPDATE; ALTER EXTENSION hll_sketches_apache UPDATE;"
 OPTIONS = "", ", 10::bigint", ", 10::bigint, 6::bigint"
 OPERATORS_OF_TYPE = "= <> < <= > >= ||".split()
 COUNTED = ("x::int2", "x::int4", "x > 3", "x::float4", "x::float8", "date '2026-11-01' + n", "timestamp '2026-11-01' + x * interval '1 s'",
@@ -138,6 +139,15 @@ def uses(own, short):
         for value in COUNTED:
             yield "SET search_path = pg_catalog; SELECT %s.hyperloglog_agg(%s%s), %s.hll_image_add_agg(%s%s), %s.hll_add_agg(%s%s) " \
                 "FROM safe.sketches; SET search_path = mallory, public;" % (own, value, more, own, value, more, short, value, more)
+    for value, more in itertools.product(("x", "t", "image", *COUNTED), OPTIONS[:2]):
+        yield "SET search_path = pg_catalog; SELECT n, %s.hll_count_distinct(%s%s) FROM safe.sketches GROUP BY n ORDER BY n; " \
+            "SET search_path = mallory, public;" % (own, value, more)
+    for call in "get_estimate(%s)", "get_estimate_and_bounds(%s, 2::bigint)", "to_string(%s)":
+        for sketch in "image", "typed":
+            yield "SELECT %s.hll_sketch_%s FROM safe.sketches;" % (short, call % sketch)
+    for value, more in itertools.product(("x", "t", "image", *COUNTED), OPTIONS[:2]):
+        yield "SET search_path = pg_catalog; SELECT n, %s.hll_sketch_build(%s%s), %s.hll_sketch_union(typed%s), %s.hll_sketch_union(image%s) " \
+            "FROM safe.sketches GROUP BY n ORDER BY n; SET search_path = mallory, public;" % (short, value, more, short, more, short, more)
     for agg, arguments, more in itertools.product(
             (own + ".hll_image_%s_agg", short + ".hll_%s_agg"), ("image", "t", "x"), OPTIONS):
         for kind in ("union", "add") if arguments == "image" else ("add",):
@@ -151,7 +161,8 @@ def uses(own, short):
 def install(server, database, own, short):
     return server.run("""SET search_path = mallory, public;
         CREATE EXTENSION hll_sketches SCHEMA %s;
-        CREATE EXTENSION hll_sketches_agg SCHEMA %s;""" % (own, short), database)
+        CREATE EXTENSION hll_sketches_agg SCHEMA %s;
+        CREATE EXTENSION hll_sketches_apache SCHEMA %s;""" % (own, short, short), database)
 
 
 def new_database(server, name):
@@ -170,7 +181,7 @@ def unheard(server, name, database, said):
 
 
 def attack(server):
-    """Both extensions in each schema, with what is planted before and what is planted later."""
+    """The extensions in each schema, with what is planted before and what is planted later."""
     new_database(server, "calm")
     equal("installed in peace", install(server, "calm", "public", "public"), "")
     own = set(signatures(server, "calm"))
@@ -213,7 +224,7 @@ def update_attacked(server, database, schemas, own):
         if schema not in schemas:
             equal("the same in " + schema, as_mallory(server, database, exact(schema, without_type(own))), [])
     said = server.run("""SET search_path = mallory, public;
-        ALTER EXTENSION hll_sketches UPDATE; ALTER EXTENSION hll_sketches_agg UPDATE;""", database)
+        %s""" % UPDATE, database)
     equal("updated in %s and %s" % schemas, said, "")
     unheard(server, "updating in %s and %s" % schemas, database, said)
 
@@ -300,12 +311,13 @@ def aggregate(name, arguments):
 
 
 def try_taken(server, statement, short, code):
-    """With hll_sketches_agg in this schema, and hll_sketches in public."""
+    """With the extensions of other names in this schema, and hll_sketches in public."""
     name = statement.split(" LANGUAGE")[0]
     said = server.run("""BEGIN; SET SESSION AUTHORIZATION mallory; SET search_path = pg_catalog;
         %s
         RESET SESSION AUTHORIZATION; SET search_path = mallory, public; CREATE EXTENSION hll_sketches SCHEMA public;
-        CREATE EXTENSION hll_sketches_agg SCHEMA %s; ROLLBACK;""" % (statement, short), "taken")
+        CREATE EXTENSION hll_sketches_agg SCHEMA %s; CREATE EXTENSION hll_sketches_apache SCHEMA %s; ROLLBACK;""" % (
+            statement, short, short), "taken")
     refused("taken: " + name, said, code)
     unheard(server, name, "taken", said)
 
@@ -318,8 +330,8 @@ OWN_KINDS = ("DOMAIN %s AS bytea", "DOMAIN %s AS text", "DOMAIN %s AS int4", "TY
 ARGUMENT_TYPES = """SELECT DISTINCT p.proname, t.oid::regtype
     FROM pg_extension e JOIN pg_depend d ON d.refclassid = 'pg_extension'::regclass AND d.refobjid = e.oid AND d.classid = 'pg_proc'::regclass
         JOIN pg_proc p ON p.oid = d.objid JOIN pg_type t ON t.oid = ANY (p.proargtypes)
-    WHERE extname = 'hll_sketches_agg' AND typname = 'hyperloglog' ORDER BY 1"""
-KEPT = """CREATE VIEW safe.report AS SELECT public.hll_union_agg(image) AS image FROM (SELECT safe.hyperloglog_agg(7) AS image) s;
+    WHERE extname IN ('hll_sketches_agg', 'hll_sketches_apache') AND typname = 'hyperloglog' ORDER BY 1"""
+KEPT = """CREATE VIEW safe.report AS SELECT public.hll_union_agg(image) AS image, max(public.hll_sketch_get_estimate(image)) AS count FROM (SELECT safe.hyperloglog_agg(7) AS image) s;
     CREATE MATERIALIZED VIEW safe.kept AS TABLE safe.report;"""
 KEPT_VIEWS = "SELECT (SELECT count(*) FROM pg_extension WHERE extname ~ '^hll'), safe.hll_estimate(r.image) = 1, r.image = k.image FROM safe.report r, safe.kept k"
 FORGET = """SET client_min_messages = warning; DROP EXTENSION hll_sketches CASCADE; DROP TYPE IF EXISTS public.hyperloglog;
@@ -327,8 +339,8 @@ FORGET = """SET client_min_messages = warning; DROP EXTENSION hll_sketches CASCA
 
 
 def types_of_others(server):
-    """Where mallory has a type of the extension's name in the schema of hll_sketches_agg, its aggregates are of the extension's own
-    type all the same. No role but their owner can drop them, or what uses them."""
+    """Where mallory has a type of the extension's name in the schema of the other names, these are of the extension's own type all
+    the same. No role but their owner can drop them, or what uses them."""
     new_database(server, "typed")
     for kind in OWN_KINDS:
         for versions in ("",), (" VERSION '%s'" % EARLIER, "UPDATE"):
@@ -336,7 +348,14 @@ def types_of_others(server):
     odd = '"%s $$ ""own\'s"'
     server.ask("CREATE SCHEMA " + odd, "typed")
     equal("a schema whose name has to be quoted", install(server, "typed", odd, "public"), "")
-    equal("types in " + odd, server.ask(ARGUMENT_TYPES, "typed"), "hll_add_agg|%s.hyperloglog\nhll_union_agg|%s.hyperloglog" % (odd, odd))
+    equal("types in " + odd, server.ask(ARGUMENT_TYPES, "typed"), types_of(odd))
+
+
+def types_of(schema):
+    """What ARGUMENT_TYPES finds."""
+    names = ("hll_add_agg", "hll_sketch_build", "hll_sketch_get_estimate", "hll_sketch_get_estimate_and_bounds", "hll_sketch_to_string",
+             "hll_sketch_union", "hll_union_agg")
+    return "\n".join("%s|%s.hyperloglog" % (name, schema) for name in names)
 
 
 def drop_as_mallory(server, statement, version, *update):
@@ -345,18 +364,18 @@ def drop_as_mallory(server, statement, version, *update):
     said = install(server, "typed", "safe" + version, "public" + version) if update else ""
     equal("planted: " + name, as_mallory(server, "typed", [statement]), [])
     if update:
-        said += server.run("ALTER EXTENSION hll_sketches UPDATE; ALTER EXTENSION hll_sketches_agg UPDATE;", "typed")
+        said += server.run(UPDATE, "typed")
     else:
         said += install(server, "typed", "safe", "public")
     equal("made beside a type of another: " + name, said, "")
-    equal("types of the aggregates: " + name, server.ask(ARGUMENT_TYPES, "typed"), "hll_add_agg|safe.hyperloglog\nhll_union_agg|safe.hyperloglog")
+    equal("types of the other names: " + name, server.ask(ARGUMENT_TYPES, "typed"), types_of("safe"))
     server.ask(KEPT, "typed")
-    for dropped in "EXTENSION hll_sketches_agg", "EXTENSION hll_sketches", "VIEW safe.report", "TYPE safe.hyperloglog":
+    for dropped in "EXTENSION hll_sketches_agg", "EXTENSION hll_sketches_apache", "EXTENSION hll_sketches", "VIEW safe.report", "TYPE safe.hyperloglog":
         said = as_mallory(server, "typed", ["DROP %s CASCADE;" % dropped])
         check("mallory can't drop %s: %s" % (dropped, name), len(said) == 1 and "42501" in said[0], said)
     said = as_mallory(server, "typed", ["DROP %s public.hyperloglog CASCADE;" % ("TABLE" if "TABLE" in statement else "TYPE")])
     equal("mallory drops his own: " + name, said, [])
-    equal("what is left: " + name, server.ask(KEPT_VIEWS, "typed"), "2|t|t")
+    equal("what is left: " + name, server.ask(KEPT_VIEWS, "typed"), "3|t|t")
     server.ask(FORGET, "typed")
 
 

@@ -7,6 +7,7 @@ import re
 import shutil
 import subprocess
 
+from attack import UPDATE
 from report import CHECKED, DATA, UNDEFINED, check, equal, refused, skip
 from server import EARLIER, HERE, SAME, VERSION
 
@@ -43,7 +44,7 @@ def beside_peer(server):
             ("hll_cardinality(hll_union_agg(p)) FROM (SELECT hll_add_agg(hll_hash_bigint(x)) p FROM x) s", "3"),
             ("hll_estimate(hll_image_union_agg(i))::int FROM (SELECT hll_image_add_agg(x) i FROM x) s", "3"),
             ("(# hyperloglog_union_agg(i))::int FROM (SELECT hll_image_add_agg(x) i FROM x) s", "3"),
-            ("(# hll_add(hyperloglog_agg(x), 7))::int FROM x", "4"),
+            ("(# hll_add(hyperloglog_agg(x), 7))::int FROM x", "4"), ("hll_count_distinct(x), hll_count_distinct('u' || x, 11) FROM x", "3|3"),
             ("hll_estimate(hll_image_union_agg(i, 10))::int FROM (SELECT hll_image_add_agg('u' || x, 11) i FROM x) s", "3"),
             ("hll_cardinality(hll_add_agg(hll_hash_text('a'), 12, 5))", "1"),
             ("hll_estimate(hll_image_add_agg('a', 12, 6))::int, hll_estimate(hll_image_add_agg(7, 12, 6))::int", "1|1"),
@@ -85,6 +86,39 @@ def short_names(server):
     equal("unions of the type and of bytea", found, "hyperloglog|bytea")
 
 
+def apache_names(server):
+    """The extension hll_sketches_apache: the same results as by the own names, of each type of values, in the form that Apache's have."""
+    server.ask("CREATE DATABASE apache")
+    server.ask("""CREATE SCHEMA named;
+        CREATE EXTENSION hll_sketches;
+        CREATE EXTENSION hll_sketches_apache SCHEMA named;
+        SET search_path = named, public;
+        CREATE TABLE t AS SELECT x % 9 g, hll_sketch_build(x, 10) s, hll_sketch_build(x, 10)::bytea i FROM generate_series(1, 9999) x GROUP BY 1""", "apache")
+    for call, own in (
+            ("hll_sketch_build(g)", "hyperloglog_agg(g)"), ("hll_sketch_build(g::text, 9)", "hyperloglog_agg(g::text, 9)"), ("hll_sketch_union(s)", "hyperloglog_union_agg(s)"),
+            ("hll_sketch_union(i)", "hyperloglog_union_agg(i)"), ("hll_sketch_union(s, 7)", "hyperloglog_union_agg(s, 7)"), ("hll_sketch_union(i, 7)", "hyperloglog_union_agg(i, 7)"),
+            ("sum(hll_sketch_get_estimate(s))", "sum(# s)"), ("sum(hll_sketch_get_estimate(i))", "sum(# i)"),
+            ("array_agg(hll_sketch_get_estimate_and_bounds(s))", "array_agg((SELECT ARRAY[# s, lower, upper] FROM hll_estimate_bounds(s, 1)))"),
+            ("array_agg(hll_sketch_get_estimate_and_bounds(i, 3))", "array_agg((SELECT ARRAY[# s, lower, upper] FROM hll_estimate_bounds(s, 3)))"),
+            ("array_agg(hll_sketch_to_string(s))", "array_agg(hll_sketch_to_string(i))")):
+        found = server.ask("SET search_path = named, public; SELECT pg_typeof(%s) = pg_typeof(%s), %s = %s FROM t" % (call, own, call, own), "apache")
+        equal("%s is %s" % (call, own), found, "t|t")
+    for call, wanted in (
+            ("hll_sketch_to_string(hll_sketch_build('ann'::text))", '{"lg_k":12,"width":8,"stage":"list","coupons":1,"zeros":0}'),
+            ("pg_typeof(hll_sketch_build(7)), pg_typeof(hll_sketch_get_estimate_and_bounds(hll_sketch_build(7)))", "hyperloglog|double precision[]"),
+            ("hll_sketch_get_estimate(NULL::bytea) IS NULL, hll_sketch_union(NULL::hyperloglog) IS NULL, hll_sketch_build(NULL::text) IS NULL", "t|t|t")):
+        equal(call, server.ask("SET search_path = named, public; SELECT " + call, "apache"), wanted)
+    found = server.ask("""SELECT count(*), count(*) FILTER (WHERE named.oid IS NOT NULL) FROM pg_proc own LEFT JOIN pg_proc named
+        ON named.proname = 'hll_sketch_build' AND named.proargtypes = own.proargtypes WHERE own.proname = 'hll_count_distinct'""", "apache")
+    equal("as many types of values", found, "32|32")
+    said = server.run("SELECT named.hll_sketch_union(i) FROM (SELECT hyperloglog_empty(9 + g) || hyperloglog_agg(g, 9 + g) i FROM generate_series(0, 1) g GROUP BY g) x;", "apache")
+    refused("different lg_k", said, DATA, "sketches of lg_k 9 and 10 can't be merged without a bound")
+    check("the call to write", "hll_sketch_union(sketch, 9) merges them" in said, said)
+    server.ask("DROP EXTENSION hll_sketches_apache; CREATE FUNCTION hll_sketch_build(anyelement) RETURNS int4 LANGUAGE sql AS 'SELECT 1'", "apache")
+    said = server.run("CREATE EXTENSION hll_sketches_apache SCHEMA public;", "apache")
+    refused("in the schema of Apache's extension", said, "42723", 'function "hll_sketch_build" already exists with same argument types')
+
+
 # ---- names and marks
 
 
@@ -96,7 +130,7 @@ def marks(server):
     check("functions are many", len(found) > 30, len(found))
     for line in found:
         name, *said = line.split("|")
-        sees_nulls = re.search("_trans|_combine|_final|_agg|^hll_add$", name) is not None
+        sees_nulls = re.search("_trans|_combine|_final|_agg|^hll_add$|^hll_count_distinct$", name) is not None
         equal("marks of " + name, said, ["s" if name in ("hll_version", "hll_processor") else "i", "s", "f" if sees_nulls else "t"])
     server.ask("CREATE DATABASE elsewhere")
     server.ask("""CREATE SCHEMA sketches;
@@ -121,6 +155,7 @@ def version_of_header():
 # constraints and defaults, a function and aggregates. Only what each version since 0.1.9 has.
 FILL = """CREATE EXTENSION hll_sketches VERSION '%(version)s';
     CREATE EXTENSION hll_sketches_agg VERSION '%(version)s';
+    CREATE EXTENSION hll_sketches_apache VERSION '%(version)s';
     CREATE DOMAIN small_sketch AS hyperloglog(10) CHECK (hll_estimate(VALUE) < 1e9);
     CREATE TABLE days (day int PRIMARY KEY, sketch hyperloglog(12) NOT NULL, plain bytea DEFAULT hll_image_empty(12), small small_sketch,
         estimate float8 GENERATED ALWAYS AS (# sketch) STORED, CHECK ((hll_info(sketch)).lg_k <= 12));
@@ -134,10 +169,12 @@ FILL = """CREATE EXTENSION hll_sketches VERSION '%(version)s';
     CREATE INDEX by_sketch ON days USING hash (sketch);
     CREATE INDEX of_images ON days (estimate) WHERE hll_is_image(plain);
     CREATE FUNCTION total() RETURNS float8 LANGUAGE sql AS 'SELECT # hyperloglog_agg(day) FROM days'"""
-# What uses the short names, which EARLIER doesn't have.
+# What uses the names of the other extensions, which EARLIER doesn't have.
 SHORT = """CREATE VIEW short_month AS SELECT hll_union_agg(sketch) u, hll_union_agg(plain, 11) p, hll_add_agg(day) d FROM days;
     CREATE MATERIALIZED VIEW short_thirds AS SELECT day % 3 g, hll_union_agg(small) u FROM days GROUP BY 1;
-    CREATE INDEX ON short_thirds USING hash (u)"""
+    CREATE INDEX ON short_thirds USING hash (u);
+    CREATE VIEW apache AS SELECT hll_sketch_get_estimate(hll_sketch_union(sketch)) e, hll_sketch_get_estimate_and_bounds(hll_sketch_build(day, 9)) b,
+        hll_sketch_to_string(hll_sketch_union(plain, 11)) s FROM days"""
 RELATIONS = "SELECT relname FROM pg_class WHERE relnamespace = 'public'::regnamespace AND relkind IN ('r', 'v', 'm') ORDER BY 1"
 ROWS = "SELECT '%s', count(*), md5(string_agg(x::text, ',' ORDER BY x::text)) FROM %s x"
 CALLS = "SELECT total(), hll_image_add_agg(day), hll_image_add_agg(day::text, 10) FROM days"
@@ -163,7 +200,7 @@ DEFINITIONS = """SELECT concat_ws(' ', relname, attname, format_type(atttypid, a
 FILES = """SELECT relname, oid, pg_relation_filenode(oid) FROM pg_class
     WHERE relnamespace = 'public'::regnamespace AND relkind IN ('r', 'm', 'i') ORDER BY 1"""
 
-# What both extensions own, with all that their scripts say of it.
+# What the extensions own, with all that their scripts say of it.
 MEMBERS = """SELECT concat_ws('|', pg_describe_object(classid, objid, 0), obj_description(objid, relname),
         pg_get_function_arguments(p.oid), pg_get_function_result(p.oid), prosrc, probin, procost, provolatile, proparallel, proisstrict, proleakproof,
         aggtransfn, aggfinalfn, aggcombinefn, aggserialfn, aggdeserialfn, aggtranstype::regtype, aggtransspace, aggfinalmodify,
@@ -178,7 +215,6 @@ MEMBERS = """SELECT concat_ws('|', pg_describe_object(classid, objid, 0), obj_de
         LEFT JOIN pg_type t ON (classid, objid) = ('pg_type'::regclass, t.oid)
         LEFT JOIN pg_opclass f ON (classid, objid) = ('pg_opclass'::regclass, f.oid)
     ORDER BY x"""
-UPDATE = "ALTER EXTENSION hll_sketches UPDATE; ALTER EXTENSION hll_sketches_agg UPDATE;"
 
 
 def looked_up(server, database):
@@ -210,7 +246,7 @@ def update(server):
     versions = server.ask("SELECT version FROM pg_available_extension_versions WHERE name = 'hll_sketches' AND version <> '%s'" % VERSION)
     check("earlier versions", {EARLIER, SAME} <= {*versions.split("\n")}, versions)
     server.ask("CREATE DATABASE fresh")
-    server.ask("CREATE EXTENSION hll_sketches; CREATE EXTENSION hll_sketches_agg", "fresh")
+    server.ask("CREATE EXTENSION hll_sketches; CREATE EXTENSION hll_sketches_agg; CREATE EXTENSION hll_sketches_apache", "fresh")
     members = server.ask(MEMBERS, "fresh").split("\n")
     check("what a new database has", len(members) > 200, len(members))
     for version in versions.split("\n"):
@@ -227,11 +263,11 @@ def update_from(server, version, members):
     before, files, dumped = contents(server, name), server.ask(FILES, name), server.tool("pg_dump", "-d", name)
     equal("updated from " + version, server.run(UPDATE, name), "")
     equal("versions", server.ask("SELECT extname, extversion FROM pg_extension WHERE extname ~ '^hll' ORDER BY 1", name),
-          "hll_sketches|%s\nhll_sketches_agg|%s" % (VERSION, VERSION))
+          "hll_sketches|%s\nhll_sketches_agg|%s\nhll_sketches_apache|%s" % (VERSION, VERSION, VERSION))
     same("after an update from " + version, contents(server, name), before)
     equal("no table or index is written again from " + version, server.ask(FILES, name), files)
     same("an update makes what a new database has, from " + version, server.ask(MEMBERS, name).split("\n"), members)
-    older = "CREATE EXTENSION hll_sketches VERSION '%s'; CREATE EXTENSION hll_sketches_agg VERSION '%s'" % (version, version)
+    older = "; ".join("CREATE EXTENSION %s VERSION '%s'" % (name, version) for name in ("hll_sketches", "hll_sketches_agg", "hll_sketches_apache"))
     for kind, text, first, last in (("from before", dumped, "", ""), ("from before, into an earlier version", dumped, older, UPDATE),
                                     ("from after", server.tool("pg_dump", "-d", name), "", "")):
         target = "%s, dump %s" % (name, kind)

@@ -131,6 +131,28 @@ def kinds_of_values(server):
     alike(server)
 
 
+def counts(server):
+    """hll_count_distinct is the rounded estimate of each type's values, a bigint; 0 for no value, as count."""
+    for kind, values in kinds():
+        for some, lg_k in (values, 11), (values[:5], 12), (values[-3:], 10):
+            given = array_of(kind, [text for text, _ in some])
+            found = server.ask("SELECT hll_count_distinct(v, %d) = round(# hyperloglog_agg(v, %d)), hll_count_distinct(v) = round(# hyperloglog_agg(v)), "
+                               "hll_count_distinct(v) FILTER (WHERE v IS NULL), pg_typeof(hll_count_distinct(v)) FROM unnest(%s) v" % (lg_k, lg_k, given))
+            equal("hll_count_distinct of %d values of %s" % (len(some), kind), found, "t|t|0|bigint")
+    for call, wanted in (
+            ("hll_count_distinct(v) FROM unnest(ARRAY['ann', 'bob', NULL, 'ann']) v", "2"), ("hll_count_distinct(NULL::text)", "0"),
+            ("hll_count_distinct(n, 4) FROM generate_series(1, 0) n", "0"), ("hll_count_distinct(DISTINCT n % 9, 4) = hll_count_distinct(n % 9, 4) FROM generate_series(1, 900) n", "t"),
+            ("bool_and(c = n) FROM (SELECT n, hll_count_distinct(n) OVER (ORDER BY n) c FROM generate_series(1, 90) n) x", "t"),
+            ("bool_and(c = least(n, 3)) FROM (SELECT n, hll_count_distinct(n) OVER (ORDER BY n ROWS 2 PRECEDING) c FROM generate_series(1, 90) n) x", "t")):
+        equal(call, server.ask("SELECT " + call), wanted)
+    for kind, value in OTHERS.items():
+        said = server.run("SELECT hll_count_distinct(%s);" % value)
+        refused("hll_count_distinct of " + kind, said, DATATYPE, "values of type %s cannot be counted" % kind)
+    refused("hll_count_distinct of a sketch", server.run("SELECT hll_count_distinct(hyperloglog_empty());"), DATATYPE, "sketches are not counted")
+    for lg_k, code in ("3", "22023"), ("22", "22023"), ("NULL", "22004"), ("n", "22023"):
+        refused("hll_count_distinct of lg_k " + lg_k, server.run("SELECT hll_count_distinct(n, %s) FROM generate_series(10, 12) n;" % lg_k), code)
+
+
 ALIKE = ("5::int2", "5::int4", "5::int8"), ("true", "1"), ("false", "0", "0::float8", "'-0'::float8", "'-0'::float4"), (
     "'NaN'::float8", "'NaN'::float4"), ("1.5::float4", "1.5::float8"), ("'x'", "'x'::text", "'x'::varchar(9)", "'x'::char(5)",
     "'x'::name", "'x'::word", "'x'::\"char\"", "'\\x78'::bytea"), ("7::small", "7"), ("date '1970-01-08'", "7"), (
@@ -295,7 +317,7 @@ PEOPLE = """CREATE COLLATION IF NOT EXISTS ignores_case (provider = icu, locale 
     CREATE TABLE people (name citext, nick nickname, under text COLLATE ignores_case, plain text, short varchar(9));
     INSERT INTO people SELECT x, x, x, x, x FROM unnest(ARRAY['Ann', 'ann', 'Bob']) x"""
 EACH_WAY = ("hyperloglog_agg(%s)", "hll_image_add_agg(%s, 9)", "hyperloglog_agg(%s, 9, 4)", "hyperloglog_agg(DISTINCT %s)", "hyperloglog_agg(%s) FILTER (WHERE true)",
-            "hyperloglog_agg(%s) OVER ()", "count(*) OVER (), hyperloglog_agg(%s, 9) OVER (ORDER BY plain ROWS 1 PRECEDING)", "hll_add(hyperloglog_empty(), %s)",
+            "hyperloglog_agg(%s) OVER ()", "count(*) OVER (), hyperloglog_agg(%s, 9) OVER (ORDER BY plain ROWS 1 PRECEDING)", "hll_count_distinct(%s)", "hll_add(hyperloglog_empty(), %s)",
             "hll_add(hll_image_empty(), %s)")
 
 

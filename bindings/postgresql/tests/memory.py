@@ -49,7 +49,8 @@ def refusals():
     queries = ["SELECT hll_image_union_agg(i, 12, 8) FROM unnest(%s) i;" % array(images + [image]) for image in bad]
     queries += ["SELECT hll_merge(%s, %s);" % (literal(image), literal(image)) for image in bad]
     queries += ["SELECT hll_estimate(%s);" % literal(image) for image in bad]
-    return queries + ["SELECT hll_image_add_agg(x, 14, CASE x WHEN 2000 THEN 4 ELSE 8 END) FROM generate_series(1, 2000) x;"]
+    return queries + ["SELECT hll_image_add_agg(x, 14, CASE x WHEN 2000 THEN 4 ELSE 8 END) FROM generate_series(1, 2000) x;",
+                      "SELECT hll_count_distinct(x, CASE x WHEN 2000 THEN 4 ELSE 14 END) FROM generate_series(1, 2000) x;"]
 
 
 def memory(server):

@@ -176,9 +176,10 @@ class Server:
         self.warnings = [line for line in built.stdout.splitlines() if "warning:" in line]
 
     def make_earlier(self):
-        """Scripts of EARLIER, without merges of two sketches and without the short names; and of SAME."""
+        """Scripts of EARLIER, without merges of two sketches and without the names of the other extensions; and of SAME."""
         extensions = self.inside(folder(self.pg_config, "sharedir")) / "extension"
-        for name, first, last in (("hll_sketches", "-- ---- two sketches", "-- ---- functions of the aggregates"), ("hll_sketches_agg", "DO $$\nDECLARE", "")):
+        for name, first, last in (("hll_sketches", "-- ---- two sketches", "-- ---- functions of the aggregates"), ("hll_sketches_agg", "DO $$\nDECLARE", ""),
+                                  ("hll_sketches_apache", "DO $$\nDECLARE", "")):
             text = (HERE / ("%s--%s.sql" % (name, VERSION))).read_text()
             start = text.index(first)
             end = text.index(last) if last else len(text)

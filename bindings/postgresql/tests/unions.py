@@ -116,14 +116,15 @@ def partial(server):
     """Each aggregate is planned for workers, and what they join is what one process does."""
     server.ask("CREATE DATABASE partial")
     server.ask("""CREATE EXTENSION hll_sketches_agg CASCADE;
+        CREATE EXTENSION hll_sketches_apache;
         CREATE TABLE rows AS SELECT x::int8 x, 'user ' || x t, hll_image_add_agg(x) image, hyperloglog_agg(x) sketch
             FROM generate_series(1, 20000) x GROUP BY x;
         ALTER TABLE rows SET (parallel_workers = 3);
         ANALYZE rows""", "partial")
     calls = list(aggregate_calls(server, "partial"))
-    equal("aggregates", len(calls), 6 + 39 + 6 + 39 + 6 + 39)
+    equal("aggregates", len(calls), 6 + 39 + 6 + 39 + 26 + 6 + 39 + 26 + 4)
     for call in calls:
-        query = "SELECT md5((%s)::bytea) FROM rows" % call
+        query = "SELECT md5((%s)::text) FROM rows" % call
         plan = server.ask(settings(3) + PLAN + query, "partial")
         check("workers for " + call, "Partial Aggregate" in plan and launched(plan) == 3, plan)
         answers = [server.ask(settings(workers) + query, "partial") for workers in (0, 3)]
@@ -138,7 +139,7 @@ REFUSED = "numeric", "anyelement", "hyperloglog"
 
 
 def aggregate_calls(server, database):
-    """A call of each aggregate of both extensions, but for those that refuse their values."""
+    """A call of each aggregate of the extensions, but for those that refuse their values."""
     found = server.ask("SELECT p.oid::regproc, oidvectortypes(proargtypes) FROM pg_aggregate JOIN pg_proc p ON aggfnoid = p.oid "
                        "WHERE proname ~ '^(hll|hyperloglog)_' ORDER BY p.oid", database)
     for line in found.split("\n"):

@@ -8,7 +8,7 @@ import struct
 import tempfile
 from unittest import mock
 
-from base import EXTENSION, ask, db, plain, refused, rejected, table_of
+from base import EXTENSION, ask, db, plain, refused, rejected, said_by, table_of
 from calls import GOOD, bad_images
 from hll_sketches import Database, Sketch, union_of
 from hll_sketches import database as module
@@ -16,6 +16,7 @@ from images import image_of, image_of_coupons, image_of_values, is_empty, merged
 from report import SEED, check, equal
 
 NUMBERS = random.Random(SEED + 1)
+OF_VALUES, OF_IMAGES = ("hll_image_add_agg", "hll_add_agg", "hyperloglog_agg"), ("hll_image_union_agg", "hll_union_agg", "hyperloglog_union_agg")
 POOL = [random_image(NUMBERS) for _ in range(400)]
 SMALL = [image_of_coupons(12, 8, random_coupons(NUMBERS, NUMBERS.randrange(20))) for _ in range(400)]
 
@@ -43,7 +44,8 @@ def unions():
                 equal("union of a group", registers_of(found[number]), registers_of(wanted))
                 if all(image[7] & 3 != 2 for image in images) and lg_k == 12 and pool is SMALL:
                     equal("bytes of a union", plain(found[number]), plain(wanted))
-        equal("short name", ask("SELECT hll_union_agg(image, 10, 6) FROM g"), ask("SELECT hll_image_union_agg(image, 10, 6) FROM g"))
+        for name in OF_IMAGES:
+            equal(name, ask("SELECT %s(image, 10, 6) FROM g" % name), ask("SELECT hll_image_union_agg(image, 10, 6) FROM g"))
 
 
 def registers_of(image):
@@ -81,6 +83,8 @@ def added():
         equal("a small group", image, image_of_values(12, 8, groups[group]))
     equal("the union of groups", plain(ask("SELECT hll_union_agg(i) FROM (SELECT hll_add_agg(x) AS i FROM v GROUP BY g)")),
           plain(image_of_values(12, 8, {value for some in groups.values() for value in some})))
+    for name in OF_VALUES:
+        equal(name, ask("SELECT %s(x, 9, 6) FROM v" % name), ask("SELECT hll_image_add_agg(x, 9, 6) FROM v"))
     two = db.execute("SELECT hll_image_add_agg(x, 8), hll_image_add_agg(g, 9, 4) FROM v").fetchone()
     equal("two aggregates at once", two, db.execute("SELECT (SELECT hll_add_agg(x, 8) FROM v), (SELECT hll_add_agg(g, 9, 4) FROM v)").fetchone())
     equal("DISTINCT", ask("SELECT hll_add_agg(DISTINCT x) = hll_add_agg(x) FROM v"), 1)
@@ -181,7 +185,8 @@ def large():
 def nulls():
     image = image_of_coupons(12, 8, [1 << 26])
     for values in ([], [None], [None, None]):
-        for name in ("hll_image_union_agg", "hll_image_add_agg", "hll_union_agg", "hll_add_agg"):
+        equal("hll_count_distinct of %r" % values, ask("SELECT hll_count_distinct(x) FROM " + table_of(values)), 0)
+        for name in OF_VALUES + OF_IMAGES:
             equal("%s of %r" % (name, values), ask("SELECT %s(x) FROM %s" % (name, table_of(values))), None)
     equal("an image among NULLs", ask("SELECT hll_image_union_agg(x) FROM " + table_of([None, image, None])), image)
     equal("a value among NULLs", ask("SELECT hll_image_add_agg(x) FROM " + table_of([None, "a", None, "a"])),
@@ -201,6 +206,9 @@ def options():
         for arguments in ("n", "12, n - 2"):
             refused("%s changes %s" % (name, arguments), same,
                     "SELECT %s(NULL, %s) FROM (SELECT 10 AS n UNION ALL SELECT 8)" % (name, arguments))
+        refused("count, " + arguments, said.replace("lg_max_k", "lg_k") if "," not in arguments else
+                "wrong number of arguments to function hll_count_distinct()", "SELECT hll_count_distinct('a', %s)" % arguments)
+    refused("hll_count_distinct changes lg_k", same, "SELECT hll_count_distinct(NULL, n) FROM (SELECT 10 AS n UNION ALL SELECT 8)")
     refused("four arguments", "wrong number of arguments to function hll_image_add_agg()", "SELECT hll_image_add_agg(1, 2, 3, 4)")
     refused("no argument", "wrong number of arguments to function hll_image_union_agg()", "SELECT hll_image_union_agg()")
     rejected("a text for an image", "an HLL image must be a blob", "SELECT hll_image_union_agg('a')")
@@ -220,15 +228,61 @@ def rows():
     equal("afterwards", ask("SELECT hll_image_union_agg(?)", few), few)
 
 
+def counts():
+    """hll_count_distinct is the rounded estimate of a group, an integer; 0 for no value, as count."""
+    query = "SELECT hll_count_distinct(x), CAST(round(hll_estimate(hll_image_add_agg(x))) AS INTEGER) FROM %s"
+    db.execute("CREATE TEMP TABLE IF NOT EXISTS c AS WITH RECURSIVE n (i) AS (SELECT 0 UNION ALL SELECT i + 1 FROM n WHERE i < 99999) "
+               "SELECT i % 7 AS g, 'v' || (i % 30011) AS x FROM n")
+    for rows in ("c WHERE g < 3", "c WHERE g = 5 LIMIT 9", "c GROUP BY g"):
+        for found, wanted in db.execute(query % rows):
+            equal("hll_count_distinct of " + rows, (type(found), found), (int, wanted))
+    for lg_k in (4, 9, 14, 21):
+        sketch = Sketch(lg_k)
+        sketch.update_many(["v%d" % n for n in range(30011)])
+        equal("hll_count_distinct at lg_k %d" % lg_k, ask("SELECT hll_count_distinct(x, ?) FROM c", lg_k), round(sketch.estimate()))
+    equal("few", ask("SELECT hll_count_distinct(value) FROM json_each('[1, 1.0, \"1\", null, 1]')"), 3)
+    equal("like count", ask("SELECT json_array(hll_count_distinct(x), count(DISTINCT x)) FROM c WHERE g > 9"), "[0,0]")
+    check("half a surrogate pair", "half a surrogate pair" in said_by("SELECT hll_count_distinct(char(55296))"), "no error")
+
+
+# Frames that start where their partition does, and the rows b that are in the frame of a row a.
+FRAMES = (("ORDER BY g", "b.g <= a.g"), ("PARTITION BY g ORDER BY x", "b.g = a.g AND b.x <= a.x"), ("", "true"), ("PARTITION BY g", "b.g = a.g"),
+          ("ORDER BY x ROWS UNBOUNDED PRECEDING", "b.x <= a.x"), ("ORDER BY x ROWS BETWEEN UNBOUNDED PRECEDING AND 3 FOLLOWING", "b.x <= a.x + 3"),
+          ("ORDER BY x ROWS BETWEEN UNBOUNDED PRECEDING AND 2 PRECEDING", "b.x <= a.x - 2"))
+MOVING = ("ORDER BY x ROWS 2 PRECEDING", "ORDER BY x ROWS BETWEEN CURRENT ROW AND UNBOUNDED FOLLOWING", "ORDER BY x RANGE BETWEEN 1 PRECEDING AND CURRENT ROW")
+
+
 def windows():
-    """None is a window function: SQLite says so."""
-    for name in ("hll_image_union_agg", "hll_image_add_agg"):
-        for frame in ("()", "(ORDER BY x)", "(ORDER BY x ROWS 2 PRECEDING)"):
-            refused("%s OVER %s" % (name, frame), "%s() may not be used as a window function" % name,
-                    "SELECT %s(x) OVER %s FROM %s" % (name, frame, table_of([1, 2])))
-    running = "SELECT (SELECT hll_estimate(hll_image_add_agg(b.x)) FROM temp.t b WHERE b.x <= a.x) FROM temp.t a ORDER BY a.x"
-    table_of([1, 2, 2, 3])
-    equal("running counts", [round(count) for (count,) in db.execute(running)], [1, 2, 2, 3])
+    """A frame that no row leaves has the result of its rows. Of a moving frame an error says what to write, which runs as it stands."""
+    db.execute("DROP TABLE IF EXISTS temp.w")
+    db.execute("CREATE TEMP TABLE w AS SELECT value AS x, value % 7 AS g, value % 50 AS v, hll_image_add_agg(value % 50, 9, 4) AS image "
+               "FROM json_each(?) GROUP BY value", (str(list(range(120))),))
+    for name in OF_VALUES + OF_IMAGES + ("hll_count_distinct",):
+        column = "image" if name in OF_IMAGES else "v"
+        for window, joined in FRAMES:
+            over = db.execute("SELECT a.x, %s(%s) OVER (%s) FROM w a ORDER BY 1" % (name, column, window)).fetchall()
+            wanted = db.execute("SELECT a.x, (SELECT %s(b.%s) FROM w b WHERE %s) FROM w a ORDER BY 1" % (name, column, joined)).fetchall()
+            equal("%s OVER (%s)" % (name, window), over, wanted)
+        for window in MOVING:
+            refused("%s OVER (%s)" % (name, window), MOVED, "SELECT %s(%s) OVER (%s) FROM w" % (name, column, window))
+    equal("rows without a value", ask("SELECT json_group_array(n) FROM (SELECT hll_count_distinct(nullif(x, 0)) OVER (ORDER BY x) AS n FROM w LIMIT 3)"), "[0,1,2]")
+    equal("FILTER", ask("SELECT max(n) FROM (SELECT hll_count_distinct(v) FILTER (WHERE g = 3) OVER (ORDER BY x) AS n FROM w)"),
+          ask("SELECT count(DISTINCT v) FROM w WHERE g = 3"))
+    rejected("a row of a window", "invalid HLL image: truncated", "SELECT hll_union_agg(iif(x = 60, x'00', image)) OVER (ORDER BY x) FROM w")
+    moving_days()
+
+
+MOVED = ("a sketch can't remove a row, so the frame of a window must start at UNBOUNDED PRECEDING; for a moving frame write a subquery: "
+         "SELECT day, (SELECT hll_union_agg(image) FROM days WHERE day BETWEEN date(d.day, '-6 days') AND d.day) FROM days AS d")
+
+
+def moving_days():
+    """What the error of a moving frame says to write: seven days up to each day."""
+    db.execute("CREATE TEMP TABLE IF NOT EXISTS days AS SELECT date('2026-11-01', value || ' days') AS day, hll_add_agg(value) AS image "
+               "FROM json_each('[0, 1, 2, 3, 4, 5, 6, 7, 8, 9, 10, 12]') GROUP BY value")
+    found = db.execute("SELECT round(hll_estimate(u)) FROM (%s)" % MOVED.partition("subquery: ")[2].replace(") FROM days AS d", ") AS u FROM days AS d"))
+    equal("seven days", [count for (count,) in found], [1, 2, 3, 4, 5, 6, 7, 7, 7, 7, 7, 6])
+    db.execute("DROP TABLE days")
 
 
 def sketches_in(path, pairs):

@@ -104,13 +104,15 @@ def queries():
     calls = ["hll_fault(x)", "hll_is_image(x)", "hll_first_image(x)", "hll_info(x)", "CAST(hll_estimate(x) AS INTEGER)", "hll_estimate_bounds(x, 3)",
              "CAST(hll_hip_estimate(x) AS INTEGER)", "hll_set_estimator_fields(x)", "hll_convert(x, 4)", "hll_fold(x, 4)",
              "hll_merge(x, hll_image_empty(9, 4))", "hll_merge(x, x, 4)", "hll_agree(x, hll_image_empty())", "hll_image_union_agg(x)",
-             "hll_image_union_agg(x, 9, 6)", "hll_image_add_agg(x)", "hll_image_add_agg(hex(x), 21, 4)"]
+             "hll_image_union_agg(x, 9, 6)", "hll_image_add_agg(x)", "hll_add(x, 'more')", "hll_add(x, 7.5)", "hll_image_add_agg(hex(x), 21, 4)"]
     for call in calls:
         lines.append("SELECT sum(length(%s)) FROM t WHERE hll_fault(x) IS NULL;" % call if "_agg" not in call else
                      "SELECT length(%s) FROM t WHERE hll_fault(x) IS NULL;" % call)
         lines += ["SELECT length(%s) FROM t WHERE rowid = %d;" % (call, row) for row in range(1, 40)]
     lines.append("WITH RECURSIVE n (i) AS (SELECT 1 UNION ALL SELECT i + 1 FROM n WHERE i < 3000) SELECT length(hll_image_add_agg(i)), "
                  "length(hll_image_add_agg(i + 0.5, 8, 4)), length(hll_image_add_agg('v' || i, 14, 6)) FROM n;")
+    lines.append("SELECT hll_count_distinct(x), hll_count_distinct(x, 4) FROM t; SELECT length(hll_union_agg(x, 9) OVER (ORDER BY rowid)), "
+                 "hll_count_distinct(x) OVER (ORDER BY rowid) FROM t WHERE hll_fault(x) IS NULL;")
     return "\n".join(lines)
 
 
@@ -138,7 +140,7 @@ def checked():
 def sanitized(shell, wanted):
     with tempfile.TemporaryDirectory() as folder:
         module = pathlib.Path(folder) / "hll_sketches.so"
-        sources = [FOLDER / name for name in ("extension.c", "functions.c", "group.c", "aggregates.c")]
+        sources = [FOLDER / name for name in ("extension.c", "functions.c", "group.c", "values.c", "aggregates.c")]
         built = run(CC, "-std=c99", "-O1", "-g", "-fPIC", "-shared", "-fsanitize=address,undefined", "-fno-sanitize-recover=all",
                     "-I", FOLDER.parent / "c", "-o", module, *sources, FOLDER.parent / "c" / "build" / "libhll.a", "-lm")
         library = run(CC, "-print-file-name=libasan.so").stdout.strip()

@@ -10,7 +10,7 @@ import struct
 from base import FINDING, FOLDER, ask, db, plain, refused, rejected
 from calls import GOOD, bad_images, expression_of, rows_of_calls
 from hll_sketches import Sketch, union_of
-from images import image_of, image_of_coupons, merged, random_image, sketch_of, width_of
+from images import image_of, image_of_coupons, image_of_values, is_empty, merged, random_image, sketch_of, width_of
 from report import REASONS, SEED, check, equal
 
 NUMBERS = random.Random(SEED)
@@ -118,6 +118,27 @@ def estimates():
     equal("its upper bound", ask("SELECT json_extract(hll_estimate_bounds(?), '$.upper')", full), float("inf"))
 
 
+def one_more():
+    """hll_add adds what the aggregate counts, at the image's lg_k and width; a NULL adds nothing."""
+    for number, image in enumerate(IMAGES):
+        value = (number, number + 0.5, "v%d" % number, b"b%d" % number)[number % 4]
+        one = ask("SELECT hll_image_add_agg(?, ?, ?)", value, image[3], width_of(image))
+        found = ask("SELECT hll_add(?, ?)", image, value)
+        equal("hll_add of %r" % value, ask("SELECT hll_agree(?, ?)", found, merged([image, one])), 1)
+        if not is_empty(image):     # (registers that are all 0 stay registers)
+            equal("bytes of hll_add of %r" % value, plain(found), plain(merged([image, one])))
+        equal("hll_add of %r again" % value, ask("SELECT hll_add(?, ?)", found, value), found)
+        equal("hll_add of NULL", ask("SELECT hll_add(?, NULL)", image), image)
+        equal("hll_add to NULL", ask("SELECT hll_add(NULL, ?)", value), None)
+    image = image_of_values(12, 8, [])
+    for number in range(700):
+        image = ask("SELECT hll_add(?, ?)", image, "v%d" % (number % 600))
+    equal("600 values, one at a time", image, image_of_values(12, 8, [b"v%d" % number for number in range(600)]))
+    refused("half a surrogate pair", "a TEXT has half a surrogate pair, so it is no UTF-8: leave it out, or count CAST(value AS BLOB)",
+            "SELECT hll_add(hll_image_empty(), char(55296))")
+    refused("hll_add of one argument", "wrong number of arguments to function hll_add()", "SELECT hll_add(?)", image)
+
+
 # ---- refusals
 
 
@@ -143,6 +164,7 @@ def arguments():
             ("hll_merge(?1, ?1, 22)", "lg_max_k must be between 4 and 21, not 22"),
             ("hll_estimate_bounds(?, 4)", "deviations must be 1, 2 or 3, not 4"),
             ("hll_estimate_bounds(?, 4294967297)", "deviations must be 1, 2 or 3, not 4294967297"),
+            ("hll_add(hex(?), 7)", "an HLL image must be a blob (%s)" % FINDING),
             ("hll_estimate(hex(?))", "an HLL image must be a blob (%s)" % FINDING),
             ("hll_merge(?, 7)", "an HLL image must be a blob (%s)" % FINDING),
             ("hll_merge(7.5, ?)", "an HLL image must be a blob (%s)" % FINDING),
@@ -198,7 +220,7 @@ def followed(image, more):
 
 
 CALLS = ("hll_info(?)", "hll_fold(?, 4)", "hll_convert(?, 4)", "hll_set_estimator_fields(?)", "hll_estimate(?)", "hll_hip_estimate(?)",
-         "hll_estimate_bounds(?)")
+         "hll_estimate_bounds(?)", "hll_add(?, 7)")
 
 
 def reasons():

@@ -22,9 +22,9 @@ import values  # noqa: E402
 from report import comparisons  # noqa: E402
 from tap import Tap, run_part  # noqa: E402
 
-PARTS = [shell.build, single.worked_rows, single.functions, single.estimates, single.arguments, single.reasons, single.version, values.behaviour, values.types,
+PARTS = [shell.build, single.worked_rows, single.functions, single.estimates, single.one_more, single.arguments, single.reasons, single.version, values.behaviour, values.types,
          values.many, values.encodings, values.life_zero, values.life_json, groups.unions, groups.words, groups.added, groups.growth, groups.lg_k, groups.sizes, groups.large,
-         groups.nulls, groups.options, groups.rows, groups.windows, groups.databases, attack.mutants, attack.interrupts, attack.schemas,
+         groups.nulls, groups.options, groups.rows, groups.counts, groups.windows, groups.databases, attack.mutants, attack.interrupts, attack.schemas,
          memory.limits, memory.refusals, shell.both_codes, shell.old_processor, shell.readme, shell.checked, shell.installed]
 
 
