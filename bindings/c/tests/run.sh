@@ -595,15 +595,31 @@ java_version() {
 
 # The program in Java merges two sketches, prints the estimate, and names a file that is none. "ann" and "bob", and "bob" and "eve".
 try_java() {
-    printf '\002\001\007\014\003\010\002\010\370\021\140\004\277\040\144\034' >"$tests/one.hll"
     printf '\002\001\007\014\003\010\002\010\277\040\144\034\005\000\000\014' >"$tests/two.hll"
-    printf '\002\001\010\014\003\014\000\010' >"$tests/none.hll"
     java="java --enable-native-access=ALL-UNNAMED -Dhll=$(pwd)/$build/libhll.so.0 ../../examples/java/Distinct.java"
     [ "$($java "$tests/one.hll" "$tests/two.hll")" = '3, between 3 and 3' ] || return 1
     ! $java "$tests/one.hll" "$tests/none.hll" >"$tests/said" 2>&1 && grep 'none.hll: not the image of a sketch .* status 2' "$tests/said"
 }
 
+# The program over JNI adds integers by batches, merges a sketch, and names a file that is none. The JVM checks the calls of JNI.
+try_jni() {
+    home=$(dirname "$(dirname "$(readlink -f "$(command -v javac)")")")
+    mkdir -p "$tests/jni" && javac -d "$tests/jni" ../../examples/java/Counter.java || return 1
+    $CC $strict -std=c99 -I. -shared -fPIC -I"$home/include" -I"$home/include/linux" -o "$tests/jni/libcounter.so" ../../examples/java/counter.c \
+        -L"$build" -lhll -Wl,-rpath,"$(pwd)/$build" || return 1
+    java="java -Xcheck:jni -cp $tests/jni -Dcounter=$(pwd)/$tests/jni/libcounter.so Counter"
+    [ "$($java 700 "$tests/one.hll" | sed 's/,.*//')" -gt 650 ] && [ "$($java 0 "$tests/one.hll")" = '2, between 2 and 3' ] || return 1
+    ! $java 257 "$tests/none.hll" >"$tests/said" 2>&1 && grep 'none.hll: status 2' "$tests/said"
+}
+
 test_java() {
+    printf '\002\001\007\014\003\010\002\010\370\021\140\004\277\040\144\034' >"$tests/one.hll"
+    printf '\002\001\010\014\003\014\000\010' >"$tests/none.hll"
+    if has javac && [ "$(java_version)" -ge 17 ]; then
+        expect 'the program in Java over JNI' try_jni
+    else
+        echo '# no JDK of version 17 or later is here: the example over JNI is not run'
+    fi
     if [ "$(java_version)" -lt 22 ]; then
         echo '# no JDK of version 22 or later is here: the example in Java is not run'
         return
