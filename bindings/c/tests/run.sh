@@ -597,7 +597,7 @@ java_version() {
 try_java() {
     printf '\002\001\007\014\003\010\002\010\277\040\144\034\005\000\000\014' >"$tests/two.hll"
     java="java --enable-native-access=ALL-UNNAMED -Dhll=$(pwd)/$build/libhll.so.0 ../../examples/java/Distinct.java"
-    [ "$($java "$tests/one.hll" "$tests/two.hll")" = '3, between 3 and 3' ] || return 1
+    [ "$($java "$tests/one.hll" "$tests/two.hll")" = '3, between 3 and 4' ] || return 1
     ! $java "$tests/one.hll" "$tests/none.hll" >"$tests/said" 2>&1 && grep 'none.hll: not the image of a sketch .* status 2' "$tests/said"
 }
 
