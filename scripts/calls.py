@@ -260,7 +260,7 @@ def structure(name):
 
 
 CTYPES = {"hll_status": "c_uint8", "uint32_t": "c_uint32", "uint64_t": "c_uint64", "unsigned": "c_uint", "size_t": "c_size_t",
-          "const char *": "c_char_p", "void": "None", "hll_resize": "c_void_p", "const uint8_t *": "c_char_p"}
+          "const char *": "c_char_p", "void": "None", "hll_allocator": "c_void_p", "const uint8_t *": "c_char_p"}
 FILLED = {"hll_info", "hll_head", "hll_histogram", "hll_estimation", "hll_state_summary"}
 """The structures that Python has, which calls fill in."""
 
@@ -277,7 +277,7 @@ def python_line(call):
 
 
 RUST = {"hll_status": "Status", "uint32_t": "u32", "uint64_t": "u64", "unsigned": "c_uint", "size_t": "usize", "const char *": "*const c_char",
-        "void": "()", "hll_resize": "Option<Resize>"}
+        "void": "()", "hll_allocator": "Option<Allocator>"}
 RUST_POINTED = {"uint8_t": "u8", "uint32_t": "u32", "int32_t": "i32", "size_t": "usize", "void": "c_void"}
 
 

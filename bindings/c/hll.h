@@ -121,10 +121,12 @@
  *       the bytes don't depend on the order, repetition and grouping of the images (the laws bytes_of_unions of hll_sketch), and
  *       the union is canonical too.
  *     - What hll_image_head reports. If the bytes begin with an image, the size is the size of that image.
- *     Not proved, but tested: counters (the memory of a sketch, its waiting values and copies; each change of the sketch is a
- *     proved call), bounds, estimates from coupons, hll_image_trailing, hll_state_check, hll_hip_estimate, hll_version,
- *     hll_processor, the division of a state's room by four, and what this header defines itself. Nothing is proved of time,
- *     threads, NULL and other libraries. Of memory one thing is proved: for which images an allocation may fail.
+ *     - What a counter counts, merges and writes, and what it estimates from registers: proved calls alone decide it.
+ *     Not proved, but tested: the C of counters, which gets memory, copies states to it and frees it; bounds, estimates from
+ *     coupons, hll_image_trailing, hll_state_check, hll_hip_estimate, hll_version, hll_processor, the division of a state's room
+ *     by four, and what this header defines itself. Nothing is proved of time, threads, NULL and other libraries. Of memory two
+ *     things are proved: for which images an allocation may fail, and that a state which was copied to the memory that a call
+ *     asked for is the same state, with enough room for that call.
  */
 #ifndef HLL_H
 #define HLL_H
@@ -471,7 +473,8 @@ hll_status hll_registers_image(const uint8_t *registers, size_t count, unsigned 
  * is above 63, calls that read it return HLL_REGISTER.
  *
  * A state takes 40 bytes, and four for each coupon. It takes more if values repeat, because a repeated coupon stays until the
- * coupons are sorted. Before a call returns HLL_BUFFER it sorts them, unless at most a quarter of the coupons is unsorted.
+ * coupons are sorted. Before a call returns HLL_BUFFER it sorts them, unless at most half of the coupons is unsorted (a sixteenth,
+ * where *size is the room of registers).
  * When coupons become registers it needs HLL_STATE_MOST, because the registers are made next to the coupons.
  */
 
@@ -565,9 +568,8 @@ hll_status hll_state_settled_estimate(const void *state, size_t room, hll_estima
 
 /* ---- counters ----
  *
- * A sketch that grows by itself: a state, its memory, and up to 16 coupons that wait to be added. The struct is the caller's, and
- * its memory comes from one function of the caller's in the manner of realloc, so a counter can live in any heap. A counter of
- * up to 16 values has no memory but the struct.
+ * A sketch that grows by itself: a state and its memory. The struct is the caller's, and holds a state of up to 14 coupons. A larger
+ * state is in memory from one function of the caller's, so a counter can live in any heap.
  *
  *     hll_counter counter;
  *     hll_counter_init(&counter, 12, NULL, NULL);
@@ -578,43 +580,44 @@ hll_status hll_state_settled_estimate(const void *state, size_t room, hll_estima
  *
  * (A program also checks the statuses.)
  *
- * If a call returns anything but HLL_OK, or doesn't return because `resize` jumped out of it, the sketch is as it was, and the
- * counter can be used and freed. Nothing that the call allocated is lost.
+ * If a call returns anything but HLL_OK, the sketch is as it was, and the counter can be used and freed. Nothing that the call
+ * allocated is lost.
  *
  * Calls with a const hll_counter change nothing, so any number of threads may make them on one counter at once, if threads may
- * call `resize` at once. During any other call on a counter no other thread may use it. To be read, a counter is copied if
- * coupons wait or aren't sorted: to the stack, or by `resize` if that takes more than 2 KiB. hll_counter_settle adds and sorts
- * them, so that readers copy nothing.
+ * call the allocator at once. During any other call on a counter no other thread may use it. To be read, a counter is copied if its
+ * coupons aren't sorted: to the stack, or to memory of the allocator if that takes more than 2 KiB. hll_counter_settle sorts them,
+ * so that readers copy nothing.
  *
- * This is plain C over the proved calls on states (bindings/c/counter.c), tested and not proved.
+ * What a counter counts, merges and writes, and what it estimates from registers, is decided by the proved calls on states alone.
+ * The C around them (bindings/c/counter.c) gets memory, copies bytes to it and frees it. It is tested, not proved.
  */
 
-#define HLL_COUNTER_WAITING 16
+/* The number of coupons for which a counter has room in the struct. */
+#define HLL_COUNTER_COUPONS 14
 
-/* Allocates `size` bytes if memory is NULL, frees memory if the size is 0, and otherwise resizes it, as realloc does. If the size
- * is above 0, it may return NULL or not return: then memory is as it was. */
-typedef void *(*hll_resize)(void *context, void *memory, size_t size);
+/* Allocates `size` bytes if memory is NULL, and returns NULL if it can't. Frees memory if size is 0. It is called in these two ways
+ * alone, and has to return: a jump out of it (longjmp, or an exception) can lose memory. */
+typedef void *(*hll_allocator)(void *context, void *memory, size_t size);
 
-/* Only the calls below use the members. */
+/* Only the calls below use the members. The struct may be moved to another address, but a copy of it must not be used as a second
+ * counter (hll_counter_copy). */
 typedef struct hll_counter {
-    uint8_t *state; /* NULL, or a state */
-    size_t room;    /* its bytes */
-    uint8_t *spare; /* NULL, or a state that is to be freed */
-    hll_resize resize;
+    hll_allocator allocator;
     void *context;
-    uint8_t lg_k;       /* 0 if it is open */
-    uint8_t lg_max_k;   /* the bound of joins, or 0 for none */
-    uint8_t is_dense;   /* whether there are registers, and room for them alone */
-    uint8_t is_roomy;   /* whether there are registers, and more room */
-    uint8_t is_settled; /* whether no coupon waits, and calls that read the state change no byte of it */
-    uint8_t n_waiting;
-    uint32_t waiting[HLL_COUNTER_WAITING];
+    uint32_t room;       /* the bytes of at.state, or 0: then the state is in at.first */
+    uint8_t lg_max_k;    /* the bound of joins, or 0 for none */
+    uint8_t is_loose;    /* whether the state grew to the room that coupons need to become registers, and still has coupons */
+    uint8_t is_reserved; /* whether it keeps room that it doesn't need */
+    union {
+        uint8_t *state;
+        uint8_t first[40 + 4 * HLL_COUNTER_COUPONS];
+    } at;
 } hll_counter;
 
 /* Makes an empty counter of an lg_k of 4 to 21; or one whose lg_k is open (0): the first image or counter with values that is
- * joined decides it, and until then adding returns HLL_ARGUMENT (hll_state_new). If resize is NULL, it is that of malloc.
+ * joined decides it, and until then adding returns HLL_ARGUMENT (hll_state_new). If allocator is NULL, it is that of malloc.
  * Returns HLL_OK or HLL_ARGUMENT. Allocates nothing. */
-hll_status hll_counter_init(hll_counter *counter, unsigned lg_k, hll_resize resize, void *context);
+hll_status hll_counter_init(hll_counter *counter, unsigned lg_k, hll_allocator allocator, void *context);
 
 /* Frees the memory of a counter, which is then empty, with its bound as its lg_k. */
 void hll_counter_free(hll_counter *counter);
@@ -629,13 +632,11 @@ hll_status hll_counter_add_many(hll_counter *counter, const uint8_t *values, siz
                                 size_t n);
 hll_status hll_counter_add_coupons(hll_counter *counter, const uint32_t *coupons, size_t n);
 
-/* Join the sketch of an image, of n images (all or none), or of another counter. A counter that was initialised with an lg_k
- * merges sketches of any lg_k, under it as the bound, and then has the smallest lg_k. An open one merges sketches of one lg_k, and
- * returns HLL_OTHER_LG_K for another. If an image is rejected, hll_counter_join_many sets *failed, which may be NULL, to its
- * number, counted from 0.
+/* Join the sketch of an image, or of another counter. A counter that was initialised with an lg_k merges sketches of any lg_k,
+ * under it as the bound, and then has the smallest lg_k. An open one merges sketches of one lg_k, and returns HLL_OTHER_LG_K for
+ * another.
  * Return HLL_OK, 1 to 11, HLL_MEMORY or HLL_OTHER_LG_K. */
 hll_status hll_counter_join(hll_counter *counter, const uint8_t *image, size_t len);
-hll_status hll_counter_join_many(hll_counter *counter, const hll_bytes *images, size_t n, size_t *failed);
 hll_status hll_counter_join_counter(hll_counter *counter, const hll_counter *other);
 
 /* Sets the bound of joins from now on: 0, with which the counter merges sketches of its lg_k only, or an lg_k of at least the
@@ -643,18 +644,18 @@ hll_status hll_counter_join_counter(hll_counter *counter, const hll_counter *oth
  * Returns HLL_OK or HLL_ARGUMENT. */
 hll_status hll_counter_bind(hll_counter *counter, unsigned lg_max_k);
 
-/* Makes one counter the copy of another. Both are initialised, and `to` keeps its own resize.
+/* Makes one counter the copy of another. Both are initialised, and `to` keeps its own allocator.
  * Returns HLL_OK or HLL_MEMORY. */
 hll_status hll_counter_copy(hll_counter *to, const hll_counter *from);
 
-/* Adds what waits and sorts the coupons, so that reading copies nothing. Returns HLL_OK or HLL_MEMORY. */
+/* Sorts the coupons, so that reading copies nothing. Returns HLL_OK. */
 hll_status hll_counter_settle(hll_counter *counter);
 
 /* Makes room for any number of values, so that adding allocates nothing until a shrink.
  * Returns HLL_OK, HLL_MEMORY, or HLL_ARGUMENT if the lg_k is open. */
 hll_status hll_counter_reserve(hll_counter *counter);
 
-/* Frees the room that the sketch doesn't need. If resize returns NULL, the counter keeps it. */
+/* Frees the room that the sketch doesn't need. If an allocation fails, the counter keeps it. */
 void hll_counter_shrink(hll_counter *counter);
 
 /* Writes the image at this width. Returns HLL_OK, HLL_ARGUMENT, HLL_MEMORY or HLL_BUFFER (*size is the size of the image). */
@@ -663,7 +664,7 @@ hll_status hll_counter_image(const hll_counter *counter, unsigned width, uint8_t
 /* Estimates as hll_estimate does. Returns HLL_OK or HLL_MEMORY. */
 hll_status hll_counter_estimate(const hll_counter *counter, hll_estimation *estimation);
 
-/* Reports what the sketch is, as hll_state_info does; the size is that of a state with what waits.
+/* Reports what the sketch is, as hll_state_info does.
  * Returns HLL_OK, or HLL_ARGUMENT if summary_size is not sizeof *summary. */
 hll_status hll_counter_info(const hll_counter *counter, hll_state_summary *summary, size_t summary_size);
 

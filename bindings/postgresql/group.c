@@ -17,7 +17,7 @@ new_group(MemoryContext context, uint8 lg_k, uint8 width)
 bool
 has_rows(const Group *group)
 {
-	return group->counter.resize != NULL;
+	return group->counter.allocator != NULL;
 }
 
 /* Returns the counter, and makes it if there is none yet. */

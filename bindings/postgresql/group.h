@@ -11,7 +11,7 @@ typedef struct Group
 {
 	uint8		lg_k;			/* for a sketch of values its lg_k; for a union the bound, or 0 if there is none */
 	uint8		width;			/* of the result; 0 for the width of the images, or 8 if they differ */
-	hll_counter counter;		/* made when the first value or image comes; its resize is NULL until then */
+	hll_counter counter;		/* made when the first value or image comes; its allocator is NULL until then */
 } Group;
 
 /* Returns, in the step of an aggregate, the group for the row, with these options unless the call has others (aggregates.c). */

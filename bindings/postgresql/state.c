@@ -3,18 +3,14 @@
 
 #include "miscadmin.h"
 
-/* The allocator of counters: that of a memory context. It doesn't return if there is no memory, or if the query is cancelled:
- * then the counter is as it was (hll.h). */
+/* The allocator of counters: that of a memory context. It has to return (hll.h), so it raises no error if there is no memory. */
 static void *
-resize(void *context, void *memory, size_t size)
+allocate(void *context, void *memory, size_t size)
 {
-	if (size == 0)
-	{
-		pfree(memory);
-		return NULL;
-	}
-	CHECK_FOR_INTERRUPTS();
-	return memory == NULL ? MemoryContextAlloc(context, size) : repalloc(memory, size);
+	if (size > 0)
+		return MemoryContextAllocExtended(context, size, MCXT_ALLOC_NO_OOM);
+	pfree(memory);
+	return NULL;
 }
 
 hll_state_summary
@@ -30,7 +26,7 @@ summary_of(const hll_counter *counter)
 void
 make_counter(hll_counter *counter, MemoryContext context, uint8 lg_k)
 {
-	check_status(hll_counter_init(counter, lg_k, resize, context));
+	check_status(hll_counter_init(counter, lg_k, allocate, context));
 }
 
 /* Makes a copy, with no more memory than it needs. */
@@ -56,12 +52,14 @@ join_image(hll_counter *counter, const uint8 *image, size_t size)
 	return hll_counter_join(counter, image, size);
 }
 
-/* Merges another counter. Returns HLL_OK or HLL_OTHER_LG_K. */
+/* Merges another counter, unless the query is cancelled. Returns HLL_OK or HLL_OTHER_LG_K. */
 hll_status
 join_counter(hll_counter *counter, const hll_counter *other)
 {
-	hll_status	status = hll_counter_join_counter(counter, other);
+	hll_status	status;
 
+	CHECK_FOR_INTERRUPTS();
+	status = hll_counter_join_counter(counter, other);
 	if (status != HLL_OTHER_LG_K)
 		check_status(status);
 	return status;

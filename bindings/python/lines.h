@@ -49,12 +49,12 @@ hll_status lines_add(lines_call add, hll_counter *counter, const uint8_t *bytes,
 
 /* The calls of libhll: hll_counter_init, _free, _add, _settle and _image; and what allocates, or NULL for malloc. */
 typedef struct rows_calls {
-    hll_status (*init)(hll_counter *counter, unsigned lg_k, hll_resize resize, void *context);
+    hll_status (*init)(hll_counter *counter, unsigned lg_k, hll_allocator allocator, void *context);
     void (*free)(hll_counter *counter);
     lines_call add;
     hll_status (*settle)(hll_counter *counter);
     hll_status (*image)(const hll_counter *counter, unsigned width, uint8_t *out, size_t room, size_t *size);
-    hll_resize resize;
+    hll_allocator allocator;
 } rows_calls;
 
 typedef struct rows_field {

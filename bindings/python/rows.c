@@ -172,7 +172,7 @@ static entry *entry_of(rows *all, const uint8_t *key, size_t size)
         return NULL;
     one->hash = hash, one->size = size;
     memcpy(one->key, key, size);
-    if (all->calls.init(&one->counter, all->lg_k, all->calls.resize, NULL) != HLL_OK) {
+    if (all->calls.init(&one->counter, all->lg_k, all->calls.allocator, NULL) != HLL_OK) {
         free(one);
         return NULL;
     }

@@ -4,26 +4,25 @@
 #define MIN(a, b) ((a) < (b) ? (a) : (b))
 
 /* The allocator of counters: that of SQLite. */
-static void *resize(void *context, void *memory, size_t size)
+static void *allocate(void *context, void *memory, size_t size)
 {
     (void)context;
-    if (size == 0) {
-        sqlite3_free(memory);
-        return NULL;
-    }
-    return sqlite3_realloc64(memory, size);
+    if (size > 0)
+        return sqlite3_malloc64(size);
+    sqlite3_free(memory);
+    return NULL;
 }
 
 bool has_rows(const Group *group)
 {
-    return group->counter.resize != NULL;
+    return group->counter.allocator != NULL;
 }
 
 /* Returns the counter, which the first value or image makes. Without an lg_k that is open: what is merged decides it. */
 static hll_counter *counter_of(Group *group)
 {
     if (!has_rows(group))
-        (void)hll_counter_init(&group->counter, group->lg_k, resize, NULL);
+        (void)hll_counter_init(&group->counter, group->lg_k, allocate, NULL);
     return &group->counter;
 }
 

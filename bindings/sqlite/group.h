@@ -13,7 +13,7 @@ typedef struct Group {
     bool has_failed;
     uint8_t lg_k;           /* for a sketch of values its lg_k; for a union the bound, or 0 if there is none */
     uint8_t width;          /* of the result; 0 for the width of the images, or 8 if they differ */
-    hll_counter counter;    /* made by the first value or image; its resize is NULL until then */
+    hll_counter counter;    /* made by the first value or image; its allocator is NULL until then */
 } Group;
 
 /* Adds the value or image of a row: returns HLL_OK, HLL_MEMORY, HLL_OTHER_LG_K, or why the image is rejected. */

@@ -1,29 +1,18 @@
 /* SPDX-License-Identifier: Apache-2.0 */
-/* Calls over counters, whose allocations fail or jump out of the call. */
+/* Calls over counters, whose allocations fail. */
 #include "fuzz.h"
 
-#include <setjmp.h>
 #include <stdlib.h>
 #include <string.h>
 
-/* Above every status: the allocator jumped out of the call. */
-#define JUMPED 99
-
-static jmp_buf outside;
-static int may_jump;
-
-static void *resize(void *context, void *memory, size_t size)
+static void *allocate(void *context, void *memory, size_t size)
 {
-    void *made;
     CHECK(context == &heap, "another context");
-    if (size == 0) {
-        fuzz_free(memory);
-        return NULL;
-    }
-    made = fuzz_realloc(memory, size);
-    if (made == NULL && may_jump)
-        longjmp(outside, 1);
-    return made;
+    CHECK((memory == NULL) == (size > 0), "neither an allocation nor the end of one");
+    if (size > 0)
+        return fuzz_malloc(size);
+    fuzz_free(memory);
+    return NULL;
 }
 
 /* ---- the plain model of a counter ---- */
@@ -78,7 +67,6 @@ enum {
     ADD_MANY,
     ADD_COUPONS,
     JOIN,
-    JOIN_MANY,
     JOIN_COUNTER,
     BIND,
     COPY,
@@ -99,9 +87,7 @@ typedef struct call {
     const uint32_t *coupons;
     size_t n_coupons;
     int have_values;
-    held *images[IMAGES];
-    hll_bytes parts[IMAGES];
-    size_t n, failed, added;
+    size_t added;
 } call;
 
 /* Adds values one by one, and counts those that are added. */
@@ -129,8 +115,6 @@ static hll_status change(call *c)
         return hll_counter_add_coupons(counter, c->coupons, c->n_coupons);
     case JOIN:
         return hll_counter_join(counter, c->w->images[c->r->c % IMAGES].at, c->w->images[c->r->c % IMAGES].len);
-    case JOIN_MANY:
-        return hll_counter_join_many(counter, c->parts, c->n, c->r->c & 1 ? &c->failed : NULL);
     case JOIN_COUNTER:
         return hll_counter_join_counter(counter, c->r->c & 1 ? counter : other);
     case BIND:
@@ -157,14 +141,8 @@ static hll_status keep(call *c)
     return HLL_OK;
 }
 
-/* Makes the call, and returns JUMPED if the allocator left it. */
 static int called(call *c)
 {
-    may_jump = c->r->c >> 6 & 1;
-    if (setjmp(outside) != 0) {
-        may_jump = 0;
-        return JUMPED;
-    }
     return c->kind == SHRINK || c->kind == RESET || c->kind == FREE ? keep(c) : change(c);
 }
 
@@ -172,7 +150,6 @@ static int called(call *c)
 static int change_plainly(call *c, counted *m)
 {
     const counted *other = &c->w->counters[1 - c->i];
-    size_t i;
     int status = 0;
     switch (c->kind) {
     case ADD:
@@ -188,10 +165,6 @@ static int change_plainly(call *c, counted *m)
         return status;
     case JOIN:
         return join_image_plainly(m, &c->w->images[c->r->c % IMAGES]);
-    case JOIN_MANY:
-        for (i = 0; i < c->n && status == 0; i++)
-            status = join_image_plainly(m, c->images[i]);
-        return status;
     case JOIN_COUNTER:
         return c->r->c & 1 ? 0 : join_plainly(m, &other->x, other->widths);
     case BIND:
@@ -237,7 +210,7 @@ static uint8_t *bytes_of(const counted *m)
     uint8_t *bytes = malloc(sizeof m->counter + m->counter.room);
     memcpy(bytes, &m->counter, sizeof m->counter);
     if (m->counter.room > 0)
-        memcpy(bytes + sizeof m->counter, m->counter.state, m->counter.room);
+        memcpy(bytes + sizeof m->counter, m->counter.at.state, m->counter.room);
     return bytes;
 }
 
@@ -245,7 +218,7 @@ static uint8_t *bytes_of(const counted *m)
 static void check_kept(const char *name, const counted *m, uint8_t *bytes)
 {
     CHECK(memcmp(bytes, &m->counter, sizeof m->counter) == 0, "%s changed the counter", name);
-    CHECK(m->counter.room == 0 || memcmp(bytes + sizeof m->counter, m->counter.state, m->counter.room) == 0,
+    CHECK(m->counter.room == 0 || memcmp(bytes + sizeof m->counter, m->counter.at.state, m->counter.room) == 0,
           "%s changed the state of a counter", name);
     free(bytes);
 }
@@ -289,8 +262,8 @@ static void start(counted *m, unsigned lg_k)
     if (m->is_begun)
         hll_counter_free(&m->counter);
     plain_free(&m->x);
-    CHECK(hll_counter_init(&m->counter, 3, resize, &heap) == HLL_ARGUMENT, "a counter of lg_k 3");
-    CHECK(hll_counter_init(&m->counter, is_lg_k(lg_k) ? lg_k : 0, resize, &heap) == HLL_OK, "hll_counter_init");
+    CHECK(hll_counter_init(&m->counter, 3, allocate, &heap) == HLL_ARGUMENT, "a counter of lg_k 3");
+    CHECK(hll_counter_init(&m->counter, is_lg_k(lg_k) ? lg_k : 0, allocate, &heap) == HLL_OK, "hll_counter_init");
     m->bound = is_lg_k(lg_k) ? lg_k : 0;
     m->is_begun = 1;
     be_empty(m);
@@ -298,15 +271,8 @@ static void start(counted *m, unsigned lg_k)
 
 static void prepare(call *c)
 {
-    size_t i;
     c->values = batch_of(c->r);
     c->have_values = coupons_of(c->r, &c->coupons, &c->n_coupons);
-    c->n = c->r->len < IMAGES ? c->r->len : IMAGES;
-    for (i = 0; i < c->n; i++) {
-        c->images[i] = &c->w->images[c->r->bytes[i] % IMAGES];
-        c->parts[i].bytes = c->images[i]->at;
-        c->parts[i].len = c->images[i]->len;
-    }
 }
 
 /* Changes a counter by a call: it is what the model is afterwards, or as it was. */
@@ -317,10 +283,9 @@ static void check_change(call *c)
     prepare(c);
     begin();
     status = called(c);
-    may_jump = 0;
     wanted = change_plainly(c, m);
     replace_plainly(c, m);
-    CHECK(status == wanted || (heap.failed && (status == HLL_MEMORY || status == JUMPED)),
+    CHECK(status == wanted || (heap.failed && status == HLL_MEMORY),
           "call %d on a counter: %d in place of %d", c->kind, status, wanted);
     if (status != HLL_OK) { /* as it was, with the values that were added before */
         hll_counter kept = m->counter;

@@ -552,19 +552,17 @@ static void chain_of_joins(const whole *u, held *const *images, size_t n)
     free(image);
 }
 
-static void chain_of_counts(const whole *u, held *const *images, const hll_bytes *parts, size_t n, int at_once)
+static void chain_of_counts(const whole *u, held *const *images, size_t n)
 {
     hll_counter counter;
     uint8_t *image = malloc(u->len);
-    size_t len = 0, failed, i;
+    size_t len = 0, i;
     hll_status status = hll_counter_init(&counter, u->bound, NULL, NULL);
-    for (i = 0; i < n && status == HLL_OK && !at_once; i++)
+    for (i = 0; i < n && status == HLL_OK; i++)
         status = hll_counter_join(&counter, images[i]->at, images[i]->len);
-    if (at_once)
-        status = hll_counter_join_many(&counter, parts, n, &failed);
     if (status == HLL_OK)
         status = hll_counter_image(&counter, u->width, image, u->len, &len);
-    check_image(at_once ? "a counter, at once" : "a counter", u, status, image, len);
+    check_image("a counter", u, status, image, len);
     hll_counter_free(&counter);
     free(image);
 }
@@ -605,8 +603,7 @@ void on_chain(world *w, const record *r)
     u.len = plain_write(&u.x, u.image);
     chain_of_merges(&u, made.images, n);
     chain_of_joins(&u, made.images, n);
-    chain_of_counts(&u, made.images, made.parts, n, 0);
-    chain_of_counts(&u, made.images, made.parts, n, 1);
+    chain_of_counts(&u, made.images, n);
     if (!is_heavy(r, u.x.lg_k))
         chain_of_registers(&u, made.images, n);
     (void)ended("calls of a union", HLL_OK, HLL_OK);

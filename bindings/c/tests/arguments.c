@@ -138,7 +138,7 @@ static void show_counters(void)
     hll_counter counter;
     size_t size = 1;
     need(hll_counter_init(&counter, 12, NULL, NULL) == HLL_OK, "a counter");
-    show("hll_counter_add_many", hll_counter_add_many(&counter, values, 13, ends, 3), NULL, NULL, counter.waiting, 12);
+    show("hll_counter_add_many", hll_counter_add_many(&counter, values, 13, ends, 3), NULL, NULL, counter.at.first, 52);
     show("hll_counter_image", hll_counter_image(&counter, 8, out, sizeof out, &size), &size, NULL, out, sizeof out);
     show("hll_counter_image", hll_counter_image(&counter, 8, out, 3, &size), &size, NULL, out, sizeof out);
     hll_counter_free(&counter);

@@ -37,13 +37,17 @@ static void tell_image(hll_bytes image, int is_whole)
 static void tell_union(unsigned lg_max_k, unsigned width, const hll_bytes *images, size_t n)
 {
     hll_state_summary said = {0, 0, 0, 0, 0, 0};
-    size_t failed = n;
-    hll_status status = hll_counter_init(&counter, lg_max_k, NULL, NULL);
-    if (status == HLL_OK && (status = hll_counter_join_many(&counter, images, n, &failed)) == HLL_OK) {
+    size_t joined = 0;
+    const hll_status made = hll_counter_init(&counter, lg_max_k, NULL, NULL);
+    hll_status status = made;
+    while (status == HLL_OK && joined < n && (status = hll_counter_join(&counter, images[joined].bytes, images[joined].len)) == HLL_OK)
+        joined++;
+    if (status == HLL_OK) {
         need(hll_counter_info(&counter, &said, sizeof said) == HLL_OK, "what a counter says");
         status = hll_counter_image(&counter, width ? width : said.width, out, sizeof out, &size);
     }
-    failed < n ? (void)printf("rejected: images[%d] %s\n", (int)failed, hll_reason(status)) : tell(status);
+    HLL_TRUNCATED <= status && status <= HLL_REGISTER ? (void)printf("rejected: images[%d] %s\n", (int)joined, hll_reason(status))
+                                                      : tell(status);
 }
 
 int main(void)

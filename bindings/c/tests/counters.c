@@ -1,38 +1,30 @@
 /* SPDX-License-Identifier: Apache-2.0 */
-/* Counters against a plain model: an image, changed by hll_image_add and hll_image_merge. Each request of the allocator fails
- * in turn, by NULL or by a jump. Arguments: the number of walks, the first seed. */
+/* Counters against a plain model: an image, changed by hll_image_add and hll_image_merge. Each allocation fails in turn.
+ * Arguments: the number of walks, the first seed. */
 #include "test.h"
-
-#include <setjmp.h>
 
 /* ---- an allocator that fails */
 
 typedef struct heap {
-    long live; /* blocks */
-    long requests;
-    long fails_at; /* this request from now on fails; 0: none */
-    int jumps;
-    jmp_buf back;
+    long live;     /* blocks */
+    long fails_at; /* this allocation from now on fails; 0: none */
 } heap;
 
-static void *resize(void *context, void *memory, size_t size)
+static void *allocate(void *context, void *memory, size_t size)
 {
     heap *of = context;
     void *made;
+    CHECK((memory == NULL) == (size > 0), "neither an allocation nor the end of one: %p, %zu", memory, size);
     if (size == 0) {
-        of->live -= memory != NULL;
+        of->live--;
         free(memory);
         return NULL;
     }
-    of->requests++;
-    if (of->fails_at != 0 && --of->fails_at == 0) {
-        if (of->jumps)
-            longjmp(of->back, 1);
+    if (of->fails_at != 0 && --of->fails_at == 0)
         return NULL;
-    }
-    made = realloc(memory, size);
+    made = malloc(size);
     need(made != NULL, "memory");
-    of->live += memory == NULL;
+    of->live++;
     return made;
 }
 
@@ -189,7 +181,6 @@ enum {
     ADD_MANY,
     ADD_COUPONS,
     JOIN,
-    JOIN_MANY,
     JOIN_COUNTER,
     BIND,
     COPY,
@@ -202,19 +193,18 @@ enum {
     ESTIMATE,
     N_KINDS
 };
-static long failures[N_KINDS], jumps[N_KINDS], done[N_KINDS];
+static long failures[N_KINDS], done[N_KINDS];
 
-static uint8_t image_one[MOST], image_two[MOST], unwanted[MOST];
-static size_t one_len, two_len;
+static uint8_t image[MOST], unwanted[MOST];
+static size_t image_len;
 static size_t n_values;
 static uint32_t coupons[4096];
 static unsigned bound;
 
 static hll_status act(int kind, hll_counter *counter, hll_counter *other)
 {
-    hll_bytes both[2] = {{image_one, one_len}, {image_two, two_len}};
     hll_estimation found;
-    size_t size, failed;
+    size_t size;
     switch (kind) {
     case ADD:
         return hll_counter_add(counter, values, 8);
@@ -223,9 +213,7 @@ static hll_status act(int kind, hll_counter *counter, hll_counter *other)
     case ADD_COUPONS:
         return hll_counter_add_coupons(counter, coupons, n_values);
     case JOIN:
-        return hll_counter_join(counter, image_one, one_len);
-    case JOIN_MANY:
-        return hll_counter_join_many(counter, both, 2, &failed);
+        return hll_counter_join(counter, image, image_len);
     case JOIN_COUNTER:
         return hll_counter_join_counter(counter, other);
     case BIND:
@@ -254,8 +242,6 @@ static hll_status act(int kind, hll_counter *counter, hll_counter *other)
 
 static hll_status model_act(int kind, model *m, const model *other)
 {
-    static model copy;
-    hll_status status;
     switch (kind) {
     case ADD:
         return model_add(m, values, 8, ends, 1);
@@ -263,15 +249,7 @@ static hll_status model_act(int kind, model *m, const model *other)
     case ADD_COUPONS:
         return model_add(m, values, 8 * n_values, ends, n_values);
     case JOIN:
-        return model_join(m, image_one, one_len);
-    case JOIN_MANY:
-        copy = *m;
-        status = model_join(&copy, image_one, one_len);
-        if (status == HLL_OK)
-            status = model_join(&copy, image_two, two_len);
-        if (status == HLL_OK)
-            *m = copy;
-        return status;
+        return model_join(m, image, image_len);
     case JOIN_COUNTER:
         return model_join(m, other->image, other->len);
     case BIND:
@@ -295,26 +273,18 @@ static hll_status model_act(int kind, model *m, const model *other)
     }
 }
 
-/* Acts, and returns -1 if the allocator jumped. */
-static int tried(heap *of, int kind, hll_counter *counter, hll_counter *other)
-{
-    if (setjmp(of->back) != 0)
-        return -1;
-    return act(kind, counter, other);
-}
-
 /* The blocks that a counter has. */
 static long blocks_of(const hll_counter *counter)
 {
-    return (counter->state != NULL) + (counter->spare != NULL);
+    return counter->room != 0;
 }
 
 /* The bytes that the state of a counter takes. */
 static size_t size_of(const hll_counter *counter)
 {
     hll_state_summary said;
-    need(hll_state_info(counter->state, counter->room, &said, sizeof said) == HLL_OK, "a counter has a state");
-    return said.size;
+    need(hll_counter_info(counter, &said, sizeof said) == HLL_OK, "what a counter says");
+    return (size_t)said.size;
 }
 
 static void walk(int steps)
@@ -328,7 +298,7 @@ static void walk(int steps)
     for (i = 0; i < 2; i++) {
         unsigned lg_k = pick(3) == 0 ? 0 : pick(3) == 0 ? lg_ks[1 + pick(7)] : usual;
         memset(&heaps[i], 0, sizeof heaps[i]);
-        CHECK(hll_counter_init(&counters[i], lg_k, resize, &heaps[i]) == HLL_OK, "init");
+        CHECK(hll_counter_init(&counters[i], lg_k, allocate, &heaps[i]) == HLL_OK, "init");
         model_init(&models[i], lg_k);
     }
     for (step = 0; step < steps; step++) {
@@ -339,11 +309,10 @@ static void walk(int steps)
         heap *of = &heaps[at];
         if ((kind == FREE || kind == RESET) && pick(4) != 0)
             continue;
-        if (kind == JOIN || kind == JOIN_MANY) {
-            one_len = any_image(image_one, pick(6) == 0 ? lg_ks[1 + pick(7)] : usual, 4 + 2 * pick(3));
-            two_len = any_image(image_two, usual, 8);
-            if (pick(10) == 0 && one_len > 8)
-                one_len--;
+        if (kind == JOIN) {
+            image_len = any_image(image, pick(6) == 0 ? lg_ks[1 + pick(7)] : usual, 4 + 2 * pick(3));
+            if (pick(10) == 0 && image_len > 8)
+                image_len--;
         }
         while (repeats-- > 0) {
             static model before, after;
@@ -358,21 +327,13 @@ static void walk(int steps)
             before = after = *m;
             wanted = model_act(kind, &after, &models[1 - at]);
             for (attempt = 1;; attempt++) {
-                int status, did_jump;
-                long live = of->live;
-                long had = blocks_of(counter);
+                hll_status status;
                 of->fails_at = attempt;
-                of->jumps = (int)pick(2);
-                status = tried(of, kind, counter, other);
-                did_jump = status < 0;
-                if (did_jump || (of->fails_at == 0 && status == HLL_MEMORY)) {
-                    of->fails_at = 0;
-                    if (did_jump)
-                        jumps[kind]++;
-                    else
-                        failures[kind]++;
-                    CHECK(is_model(counter, &before, 1), "kind %d, attempt %ld, jump %d", kind, attempt, did_jump);
-                    CHECK(of->live - live == blocks_of(counter) - had, "a block is lost, kind %d", kind);
+                status = act(kind, counter, other);
+                if (of->fails_at == 0 && status == HLL_MEMORY) {
+                    failures[kind]++;
+                    CHECK(is_model(counter, &before, 1), "kind %d, attempt %ld", kind, attempt);
+                    CHECK(of->live == blocks_of(counter), "a block is lost, kind %d", kind);
                     need(attempt < 100, "an end of failures");
                     continue;
                 }
@@ -386,9 +347,8 @@ static void walk(int steps)
             CHECK(is_model(counter, m, pick(4) == 0), "kind %d, step %d, lg_k %u, len %zu", kind, step, m->lg_max_k,
                   m->len);
             CHECK(of->live == blocks_of(counter), "live %ld", of->live);
-            CHECK(kind == IMAGE || kind == ESTIMATE || counter->spare == NULL, "kind %d leaves a second state", kind);
-            if (kind == SHRINK && counter->state != NULL && !kept_room)
-                CHECK(counter->room == size_of(counter), "room %zu", counter->room);
+            if (kind == SHRINK && counter->room != 0 && !kept_room)
+                CHECK(counter->room == size_of(counter), "room %lu", (unsigned long)counter->room);
         }
     }
     for (i = 0; i < 2; i++) {
@@ -429,24 +389,36 @@ static void test_refused_coupons(void)
     }
 }
 
-/* Coupons that are added one by one wait as values do, and so take the same room. */
-static void test_single_coupons(void)
+/* Adds values one by one, of which so many are distinct, and returns the most bytes that the counter then allocated. */
+static size_t most_room(hll_counter *counter, uint64_t values, uint64_t distinct)
 {
-    hll_counter values, coupons;
-    uint64_t value;
-    int is_same = 1;
-    hll_counter_init(&values, 12, NULL, NULL);
-    hll_counter_init(&coupons, 12, NULL, NULL);
-    for (value = 0; value < 1000 && is_same; value++) {
-        uint32_t coupon = hll_coupon((const uint8_t *)&value, sizeof value);
-        is_same = hll_counter_add(&values, (const uint8_t *)&value, sizeof value) == HLL_OK &&
-                  hll_counter_add_coupons(&coupons, &coupon, 1) == HLL_OK && values.room == coupons.room &&
-                  values.n_waiting == coupons.n_waiting && values.is_dense == coupons.is_dense;
+    uint64_t i;
+    size_t most = 0;
+    for (i = 0; i < values; i++) {
+        const uint64_t value = i % distinct;
+        need(hll_counter_add(counter, (const uint8_t *)&value, sizeof value) == HLL_OK, "a value");
+        most = counter->room > most ? counter->room : most;
     }
-    CHECK(is_same, "value %lu: %d values wait and %d coupons, in %zu and %zu bytes", (unsigned long)value, values.n_waiting,
-          coupons.n_waiting, values.room, coupons.room);
-    hll_counter_free(&values);
-    hll_counter_free(&coupons);
+    return most;
+}
+
+/* A counter has no more room than its largest set needs, as long as its values are few for a set, and then that of registers. */
+static void test_room(void)
+{
+    hll_counter counter;
+    hll_counter_init(&counter, 12, NULL, NULL);
+    CHECK(most_room(&counter, HLL_COUNTER_COUPONS, 1000) == 0, "the first values are in the struct");
+    CHECK(most_room(&counter, 384, 1000) <= 40 + 4 * 384, "384 values");
+    hll_counter_free(&counter);
+    CHECK(most_room(&counter, 5000, 5000) <= 40 + 4096, "5,000 values");
+    CHECK(counter.room == 40 + 4096, "%lu bytes for registers", (unsigned long)counter.room);
+    hll_counter_free(&counter);
+    CHECK(most_room(&counter, 50000, 340) <= 40 + 4 * 384, "340 values that repeat");
+    CHECK(hll_counter_reserve(&counter) == HLL_OK && counter.room == HLL_STATE_MOST(12), "reserved");
+    CHECK(most_room(&counter, 5000, 5000) == HLL_STATE_MOST(12) && counter.room == HLL_STATE_MOST(12), "room that was reserved");
+    hll_counter_shrink(&counter);
+    CHECK(counter.room == 40 + 4096, "%lu bytes after a shrink", (unsigned long)counter.room);
+    hll_counter_free(&counter);
 }
 
 /* The 8-bit image of a counter of lg_k 12. */
@@ -511,7 +483,7 @@ int main(int argc, char **argv)
     long walks = argc > 1 ? atol(argv[1]) : 200, i;
     uint64_t first = argc > 2 ? (uint64_t)atol(argv[2]) : 1;
     test_refused_coupons();
-    test_single_coupons();
+    test_room();
     life_copied();
     life_closed();
     for (i = 0; i < walks; i++) {
@@ -520,7 +492,7 @@ int main(int argc, char **argv)
     }
     for (i = 0; i < N_KINDS && walks >= 100; i++)
         CHECK(done[i] > 0 &&
-                  (i >= IMAGE || i == RESET || i == FREE || i == SHRINK || i == BIND || failures[i] + jumps[i] > 0),
+                  (i >= IMAGE || i == RESET || i == FREE || i == SHRINK || i == SETTLE || i == BIND || failures[i] > 0),
               "kind %ld never failed", i);
     return finish("counters");
 }

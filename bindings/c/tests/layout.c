@@ -16,7 +16,7 @@
 
 HOLDS(byte_order, __BYTE_ORDER__ == __ORDER_LITTLE_ENDIAN__);
 IS(pointer, void *, 8, 8);
-IS(function, hll_resize, 8, 8);
+IS(function, hll_allocator, 8, 8);
 IS(size, size_t, 8, 8);
 IS(u64, uint64_t, 8, 8);
 IS(u32, uint32_t, 4, 4);
@@ -54,10 +54,10 @@ AT(hll_estimation, upper, 40);
 IS(bytes, hll_bytes, 16, 8);
 AT(hll_bytes, len, 8);
 
-IS(counter, hll_counter, 112, 8);
-AT(hll_counter, room, 8);
-AT(hll_counter, spare, 16);
-AT(hll_counter, resize, 24);
-AT(hll_counter, context, 32);
-AT(hll_counter, lg_k, 40);
-AT(hll_counter, waiting, 48);
+IS(counter, hll_counter, 120, 8);
+AT(hll_counter, context, 8);
+AT(hll_counter, room, 16);
+AT(hll_counter, lg_max_k, 20);
+AT(hll_counter, is_loose, 21);
+AT(hll_counter, is_reserved, 22);
+AT(hll_counter, at, 24);

@@ -125,18 +125,18 @@ class Counter(ctypes.Structure):
     """
 
     room: int
-    resize: Optional[int]
+    allocator: Optional[int]
     _fields_ = [
-        ("state", c_void_p),
-        ("room", c_size_t),
-        ("spare", c_void_p),
-        ("resize", c_void_p),
-        ("others", c_uint64 * 10),
+        ("allocator", c_void_p),
+        ("context", c_void_p),
+        ("room", c_uint32),
+        ("others", c_uint8 * 4),
+        ("at", c_uint64 * 12),
     ]
 
     def __del__(self) -> None:
-        # without `resize` it was never initialised; without `_library` Python is about to end
-        if self.resize and _library is not None:
+        # without an allocator it was never initialised; without `_library` Python is about to end
+        if self.allocator and _library is not None:
             _library.hll_counter_free(byref(self))
 
 
@@ -755,7 +755,7 @@ def image_of(registers: Memory, width: int) -> bytes:
 # ---- counters
 
 ALLOCATOR: Optional[Callable[..., Optional[int]]] = None
-"""The function that allocates the memory of counters, of the type ``hll_resize``; None is ``malloc``."""
+"""The function that allocates the memory of counters, of the type ``hll_allocator``; None is ``malloc``."""
 
 
 def new_counter(lg_k: int) -> Counter:
@@ -787,7 +787,7 @@ def settle_counter(counter: Counter) -> None:
 
 def image_of_counter(counter: Counter, width: int) -> bytes:
     """Returns the image of a counter, with the estimator fields of its registers."""
-    return _written(_library.hll_counter_image, 64 + counter.room, byref(counter), width)
+    return _written(_library.hll_counter_image, 128 + counter.room, byref(counter), width)
 
 
 def summary_of(counter: Counter) -> Summary:

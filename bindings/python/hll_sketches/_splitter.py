@@ -48,7 +48,7 @@ class _RowRules(ctypes.Structure):
 class _Calls(ctypes.Structure):
     """``rows_calls`` of lines.h."""
 
-    _fields_ = [(name, c_void_p) for name in ("init", "free", "add", "settle", "image", "resize")]
+    _fields_ = [(name, c_void_p) for name in ("init", "free", "add", "settle", "image", "allocator")]
 
 
 class Counts(ctypes.Structure):

@@ -90,9 +90,9 @@ class Allocator:
     def __init__(self):
         self.fails_at, self.requests, self.blocks = 0, 0, {}
         kind = ctypes.CFUNCTYPE(ctypes.c_void_p, ctypes.c_void_p, ctypes.c_void_p, ctypes.c_size_t)
-        self.function = kind(self.resize)
+        self.function = kind(self.allocate)
 
-    def resize(self, _, memory, size):
+    def allocate(self, _, memory, size):
         if size == 0:
             self.blocks.pop(memory, None)
             return None
@@ -100,10 +100,6 @@ class Allocator:
         if self.requests == self.fails_at:
             return None
         block = (ctypes.c_uint8 * size)()
-        old = self.blocks.get(memory)
-        if old is not None:
-            ctypes.memmove(block, old, min(size, len(old)))
-            del self.blocks[memory]
         place = ctypes.addressof(block)
         self.blocks[place] = block
         return place
@@ -116,7 +112,7 @@ class Allocator:
 def counter_bytes(union):
     """The counter of a union, and its state."""
     counter = union._state._counter
-    state = ctypes.string_at(counter.state, counter.room) if counter.state else b""
+    state = ctypes.string_at(counter.at[0], counter.room) if counter.room else b""
     return bytes(counter), state
 
 

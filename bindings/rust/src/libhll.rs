@@ -69,7 +69,7 @@ calls! {
     "hll_0_2_counter_init" fn hll_counter_init(
         counter: *mut Counter,
         lg_k: c_uint,
-        resize: Option<Resize>,
+        allocator: Option<Allocator>,
         context: *mut c_void
     ) -> Status;
     "hll_0_2_counter_free" fn hll_counter_free(counter: *mut Counter) -> ();
@@ -206,22 +206,18 @@ pub(crate) fn coupon(value: &[u8]) -> u32 {
 
 // ---- counters
 
-/// A `hll_resize`.
-type Resize = unsafe extern "C" fn(context: *mut c_void, memory: *mut c_void, size: usize) -> *mut c_void;
+/// A `hll_allocator`.
+type Allocator = unsafe extern "C" fn(context: *mut c_void, memory: *mut c_void, size: usize) -> *mut c_void;
 
 /// A `hll_counter`, whose memory is from malloc.
 #[repr(C)]
 pub(crate) struct Counter {
-    _state: *mut u8,
-    room: usize,
-    _spare: *mut u8,
-    _resize: Option<Resize>,
+    _allocator: Option<Allocator>,
     _context: *mut c_void,
-    _lg_k: u8,
+    room: u32,
     lg_max_k: u8,
-    _flags: [u8; 3],
-    _n_waiting: u8,
-    _waiting: [u32; 16],
+    _flags: [u8; 2],
+    _at: [u64; 12],
 }
 
 // SAFETY: a counter and its memory belong to no thread, and calls through a shared reference change nothing (hll.h, "counters").
@@ -232,7 +228,7 @@ unsafe impl Sync for Counter {}
 #[repr(C)]
 #[derive(Clone, Copy, Default)]
 pub(crate) struct Summary {
-    /// The bytes of its state, with what waits.
+    /// The bytes of its state.
     pub(crate) size: u64,
     pub(crate) lg_k: u8,
     pub(crate) width: u8,
@@ -271,7 +267,7 @@ impl Counter {
 
     /// The bytes of the heap that it has allocated.
     pub(crate) fn allocated(&self) -> usize {
-        self.room
+        self.room as usize
     }
 
     pub(crate) fn try_clone(&self) -> Result<Self, Status> {
@@ -323,6 +319,6 @@ mod tests {
     #[test]
     #[cfg(target_pointer_width = "64")]
     fn a_counter_has_the_size_that_it_has_in_c() {
-        assert_eq!(std::mem::size_of::<super::Counter>(), 112); // counter.c asserts it
+        assert_eq!(std::mem::size_of::<super::Counter>(), 120); // counter.c asserts it
     }
 }
