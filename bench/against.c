@@ -3,7 +3,7 @@
  *
  *   against EARLIER LATER [WORD ..]     all rows, or those whose names contain a word */
 #define _POSIX_C_SOURCE 200112L
-#include "hll.h"
+#include "hll_state.h"
 
 #include <dlfcn.h>
 #include <stdio.h>

@@ -1,7 +1,7 @@
 /* SPDX-License-Identifier: Apache-2.0 */
 /* See counters.py. */
 #define _POSIX_C_SOURCE 199309L
-#include "hll.h"
+#include "hll_state.h"
 
 #include <stdio.h>
 #include <stdlib.h>

@@ -6,7 +6,7 @@
  * The libraries are two files, since a library chooses its code once. HLL_CPU is the variable that each finds, or `-` for none.
  * bench/processors.py builds and runs it. */
 #define _POSIX_C_SOURCE 200112L
-#include "hll.h"
+#include "hll_state.h"
 
 #include <dlfcn.h>
 #include <stdio.h>

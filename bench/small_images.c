@@ -1,7 +1,7 @@
 /* SPDX-License-Identifier: Apache-2.0 */
 /* The seconds that each call of libhll takes for a megabyte of images: `small_images FILE`, where FILE has for each image its
  * length in four bytes, the lowest byte first, and the image. All images have one lg_k. bench/small_images.py makes the files. */
-#include "../bindings/c/hll.h"
+#include "../bindings/c/hll_state.h"
 
 #include <stdio.h>
 #include <stdlib.h>

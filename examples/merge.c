@@ -6,7 +6,7 @@
 #include <stdio.h>
 #include <stdlib.h>
 
-static uint8_t file[HLL_IMAGE_MAX(21)], state[HLL_STATE_MOST(21)];
+static uint8_t file[HLL_IMAGE_MAX(21)];
 
 static void end_with(const char *name, const char *what)
 {
@@ -39,6 +39,7 @@ static void write_file(const char *name, size_t len)
 
 int main(int argc, char **argv)
 {
+    hll_counter counter;
     hll_estimation found;
     hll_state_summary summary;
     size_t size;
@@ -46,12 +47,13 @@ int main(int argc, char **argv)
 
     if (argc < 3)
         end_with(argv[0], "usage: merge OUT FILE..");
-    need(hll_state_new(0, state, sizeof state), argv[0]); /* it takes the lg_k of the first sketch with values */
+    need(hll_counter_init(&counter, 0, NULL, NULL), argv[0]); /* it takes the lg_k of the first sketch with values */
     for (i = 2; i < argc; i++)
-        need(hll_state_join(0, state, sizeof state, &size, file, read_file(argv[i])), argv[i]);
-    need(hll_state_estimate(state, sizeof state, &found), argv[0]);
-    need(hll_state_info(state, sizeof state, &summary, sizeof summary), argv[0]);
-    need(hll_state_image(state, sizeof state, summary.width, file, sizeof file, &size), argv[0]);
+        need(hll_counter_join(&counter, file, read_file(argv[i])), argv[i]);
+    need(hll_counter_estimate(&counter, &found), argv[0]);
+    need(hll_counter_info(&counter, &summary, sizeof summary), argv[0]);
+    need(hll_counter_image(&counter, summary.width, file, sizeof file, &size), argv[0]);
+    hll_counter_free(&counter);
     write_file(argv[1], size);
     printf("%.0f distinct values; with 95%% certainty %.0f to %.0f\n", found.estimate, found.lower[1], found.upper[1]);
     return 0;

@@ -9,56 +9,47 @@
 #include <stdlib.h>
 #include <string.h>
 
-struct counter {
+struct entry {
     char key[64];
-    void *state;        /* the bytes of a sketch */
-    size_t room;
+    hll_counter users;
 };
 
 static int by_key(const void *a, const void *b)
 {
-    return strcmp(((const struct counter *)a)->key, ((const struct counter *)b)->key);
+    return strcmp(((const struct entry *)a)->key, ((const struct entry *)b)->key);
 }
 
 static void print(const void *node, VISIT visit, int depth)
 {
-    const struct counter *counter = *(struct counter *const *)node;
+    const struct entry *entry = *(struct entry *const *)node;
     hll_estimation found;
     (void)depth;
-    if ((visit == postorder || visit == leaf) && hll_state_estimate(counter->state, counter->room, &found) == HLL_OK)
-        printf("%.0f %s\n", found.estimate, counter->key);
+    if ((visit == postorder || visit == leaf) && hll_counter_estimate(&entry->users, &found) == HLL_OK)
+        printf("%.0f %s\n", found.estimate, entry->key);
 }
 
 /* Returns the counter of a key in the tree, which is new if there is none, or NULL if an allocation fails. */
-static struct counter *counter_of(void **tree, const struct counter *wanted)
+static hll_counter *users_of(void **tree, const struct entry *wanted)
 {
-    struct counter **found = tfind(wanted, tree, by_key), *made = NULL;
+    struct entry **found = tfind(wanted, tree, by_key), *made = NULL;
     if (found == NULL && (made = malloc(sizeof *made)) != NULL) {
         *made = *wanted;
-        made->room = HLL_STATE_NEW;
-        made->state = malloc(made->room);
-        if (made->state == NULL || hll_state_new(12, made->state, made->room) != HLL_OK) {
-            free(made->state);
-            free(made);
-            return NULL;
-        }
+        (void)hll_counter_init(&made->users, 12, NULL, NULL);
         found = tsearch(made, tree, by_key);
     }
-    return found == NULL ? NULL : *found;
+    return found == NULL ? NULL : &(*found)->users;
 }
 
 int main(void)
 {
-    struct counter wanted = {"", NULL, 0}, *counter;
+    static struct entry wanted;
+    hll_counter *users;
     void *tree = NULL;
     char user[64];
-    size_t size;
     while (scanf("%63s %63s", wanted.key, user) == 2) {
-        if ((counter = counter_of(&tree, &wanted)) == NULL)
+        users = users_of(&tree, &wanted);
+        if (users == NULL || hll_counter_add(users, (const uint8_t *)user, strlen(user)) != HLL_OK)
             return 1;
-        while (hll_state_add_value(counter->state, counter->room, &size, (const uint8_t *)user, strlen(user)) == HLL_BUFFER)
-            if ((counter->state = realloc(counter->state, counter->room = size)) == NULL)
-                return 1;
     }
     twalk(tree, print);
     return 0;

@@ -31,6 +31,9 @@ ROOT = pathlib.Path(__file__).resolve().parent.parent
 SOURCES = {".c", ".h", ".cpp", ".hpp", ".go", ".mjs", ".py", ".rs", ".sql"}
 """The endings of files that can call."""
 
+HEADERS = ("hll.h", "hll_state.h")
+"""The headers of the C library, which are called hll.h below."""
+
 Call = collections.namedtuple("Call", "result name parameters")
 Parameter = collections.namedtuple("Parameter", "type name")
 
@@ -56,8 +59,8 @@ def parameters_of(text):
 
 
 def declared():
-    """Returns the calls of hll.h by their names, in its order."""
-    text = (ROOT / "bindings/c/hll.h").read_text("utf-8")
+    """Returns the calls of the headers by their names, in their order."""
+    text = "".join((ROOT / "bindings/c" / name).read_text("utf-8") for name in HEADERS)
     found = re.finditer(r"(?m)^(hll_status|uint32_t|void|const char \*) ?(hll_\w+)\(([^;{]*?)\);", text)
     return {it[2]: Call(it[1], it[2], parameters_of(it[3])) for it in found}
 

@@ -126,8 +126,8 @@ def exports_of(text):
 
 def declared(clang, target):
     """Returns the types of each call that hll.h declares, as clang reads it for a target, by its name."""
-    names = re.findall(r"(?m)^(?:hll_status|uint32_t|void) (hll_\w+)\(", (C / "hll.h").read_text())
-    source = '#include "hll.h"\n' + "".join("void *use_%s(void) { return (void *)&%s; }\n" % (name, name) for name in names)
+    names = re.findall(r"(?m)^(?:hll_status|uint32_t|void) (hll_\w+)\(", (C / "hll.h").read_text() + (C / "hll_state.h").read_text())
+    source = '#include "hll_state.h"\n' + "".join("void *use_%s(void) { return (void *)&%s; }\n" % (name, name) for name in names)
     words = [clang, "--target=" + target.triple, *target.flags, "-ffreestanding", "-nostdinc", "-I%s" % C, "-I%s" % HEADERS,
              "-Wno-pedantic", "-S", "-emit-llvm", "-x", "c", "-", "-o", "-"]
     text = subprocess.run(list(map(str, words)), input=source, check=True, stdout=subprocess.PIPE, text=True).stdout

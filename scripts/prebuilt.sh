@@ -80,7 +80,7 @@ uncommented() {
 # The C files that are linked with the proved library, and what compiles and links it.
 wasm_sum() {
     {
-        for file in hll.h proved_calls.h counter.c estimate.c optional.c state.c; do
+        for file in hll.h hll_state.h proved_calls.h counter.c estimate.c optional.c state.c; do
             uncommented "bindings/c/$file"
         done
         find bindings/javascript/wasm -type f -name '*.[ch]' -print | sort | while IFS= read -r file; do

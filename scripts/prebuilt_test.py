@@ -47,7 +47,7 @@ class PrebuiltTest(unittest.TestCase):
             (self.root / "scripts" / name).write_text("pass\n")
         for name in ("c", "javascript/wasm"):
             (self.root / "bindings" / name).mkdir(parents=True)
-        for name in ("c/hll.h", "c/proved_calls.h", "c/counter.c", "c/estimate.c", "c/optional.c", "c/state.c", "javascript/wasm/calls.c", "javascript/wasm/build.sh", "javascript/wasm/lower.py"):
+        for name in ("c/hll.h", "c/hll_state.h", "c/proved_calls.h", "c/counter.c", "c/estimate.c", "c/optional.c", "c/state.c", "javascript/wasm/calls.c", "javascript/wasm/build.sh", "javascript/wasm/lower.py"):
             (self.root / "bindings" / name).write_text("/* %s */ int x; /* two\nlines */\n" % name)
         places = {"ROOT": self.root, "PREBUILT": self.root / "prebuilt", "VERDICT": self.root / "prebuilt" / "VERDICT", "OTHERS": others,
                   "OTHER_TOOLCHAIN": others / "other-toolchain.s", "OTHER_ARCHIVE": others / "other-toolchain.a"}

@@ -16,7 +16,7 @@ import sys
 
 ROOT = pathlib.Path(__file__).resolve().parent.parent
 PYTHON = ("bindings/python/hll_sketches/*.py",)
-C = ("bindings/c/hll.h",)
+C = ("bindings/c/hll.h", "bindings/c/hll_state.h")
 CPP = ("bindings/cpp/hll.hpp",)
 RUST = ("bindings/rust/src/**/*.rs",)
 MESSAGES = {

@@ -6,7 +6,7 @@
  * as many, and the call is made again: then it has enough (the laws `moved`, `asked` and `asked_to_join` of hll_state). A proved call
  * that fails leaves the sketch as it was, so a call that fails here does, too.
  */
-#include "hll.h"
+#include "hll_state.h"
 
 #include <stdlib.h>
 #include <string.h>

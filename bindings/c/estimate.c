@@ -3,7 +3,7 @@
  * Bounds of estimates, estimates from coupons, and the version. This is plain C, not proved. docs/NUMBERS.md says where the
  * formulas come from, and how accurate they are. The estimate from registers comes from a proved call.
  */
-#include "hll.h"
+#include "hll_state.h"
 
 /* Where a processor can multiply and add with one rounding, compilers use that, and bounds would have other bits than elsewhere. */
 #if defined(__clang__)

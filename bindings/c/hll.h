@@ -11,10 +11,10 @@
  *
  * A sketch has one of four forms:
  *     A counter grows by itself: a struct of the caller's that allocates what it needs, until hll_counter_free ("counters"
- *     below).
+ *     below). Programs that count begin with it.
  *     An image is the bytes of a sketch, for files, columns and other DataSketches libraries. Calls over images read an image
  *     and write another one.
- *     A state is a sketch that grows in memory that the caller resizes: small while there are few values ("states" below).
+ *     A state is what a counter has in its memory, for programs that map, share or move that memory themselves (hll_state.h).
  *     Registers are an array of 2^lg_k bytes, a sketch of constant size ("caller-owned registers" below).
  * Images, states and registers are in the caller's memory, and the library keeps nothing of them between calls.
  *
@@ -100,10 +100,8 @@
  *     (bindings/c/processor.c), tested and not proved.
  *
  * Threads
- *     Calls share no data but that choice. Any number of threads may call at once, also with the same inputs. Use a state in one
- *     thread at a time, because calls on a state may change its bytes. hll_state_info, hll_state_settled_image and
- *     hll_state_settled_estimate write no byte of it: any number of threads may make these calls on one state at once, in
- *     memory that is only readable, too. As the other state of hll_state_join_state, a settled state changes no byte either.
+ *     Calls share no data but that choice. Any number of threads may call at once, also with the same inputs. What threads may do
+ *     with one counter or one state at once is written there.
  *
  * What is proved
  *     - Of the calls on images, caller-owned registers, states and coupons: which status they return, what they write and what
@@ -260,6 +258,108 @@ uint32_t hll_version(void);
 /* Returns for which processors the code was compiled that runs: "x86-64-v2", "x86-64-v3", "aarch64" or "riscv64". Only on Linux on
  * x86-64 there is a choice ("processors" above). Allocates nothing. */
 const char *hll_processor(void);
+
+/* ---- counters ----
+ *
+ * A sketch that grows by itself: a state (hll_state.h) and its memory. The struct is the caller's, and holds a state of up to 14
+ * coupons. A larger state is in memory from one function of the caller's, so a counter can live in any heap.
+ *
+ *     hll_counter counter;
+ *     hll_counter_init(&counter, 12, NULL, NULL);
+ *     hll_counter_add(&counter, value, len);
+ *     hll_counter_estimate(&counter, &found);
+ *     hll_counter_image(&counter, 8, out, sizeof out, &size);
+ *     hll_counter_free(&counter);
+ *
+ * (A program also checks the statuses.)
+ *
+ * If a call returns anything but HLL_OK, the sketch is as it was, and the counter can be used and freed. Nothing that the call
+ * allocated is lost.
+ *
+ * Calls with a const hll_counter change nothing, so any number of threads may make them on one counter at once, if threads may
+ * call the allocator at once. During any other call on a counter no other thread may use it. To be read, a counter is copied if its
+ * coupons aren't sorted: to the stack, or to memory of the allocator if that takes more than 2 KiB. hll_counter_settle sorts them,
+ * so that readers copy nothing.
+ *
+ * What a counter counts, merges and writes, and what it estimates from registers, is decided by the proved calls on states alone.
+ * The C around them (bindings/c/counter.c) gets memory, copies bytes to it and frees it. It is tested, not proved.
+ */
+
+/* The number of coupons for which a counter has room in the struct. */
+#define HLL_COUNTER_COUPONS 14
+
+/* Allocates `size` bytes if memory is NULL, and returns NULL if it can't. Frees memory if size is 0. It is called in these two ways
+ * alone, and has to return: a jump out of it (longjmp, or an exception) can lose memory. */
+typedef void *(*hll_allocator)(void *context, void *memory, size_t size);
+
+/* Only the calls below use the members. The struct may be moved to another address, but a copy of it must not be used as a second
+ * counter (hll_counter_copy). */
+typedef struct hll_counter {
+    hll_allocator allocator;
+    void *context;
+    uint32_t room;       /* the bytes of at.state, or 0: then the state is in at.first */
+    uint8_t lg_max_k;    /* the bound of joins, or 0 for none */
+    uint8_t is_loose;    /* whether the state grew to the room that coupons need to become registers, and still has coupons */
+    uint8_t is_reserved; /* whether it keeps room that it doesn't need */
+    union {
+        uint8_t *state;
+        uint8_t first[40 + 4 * HLL_COUNTER_COUPONS];
+    } at;
+} hll_counter;
+
+/* Makes an empty counter of an lg_k of 4 to 21; or one whose lg_k is open (0): the first image or counter with values that is
+ * joined decides it, and until then adding returns HLL_ARGUMENT (hll_state_new). If allocator is NULL, it is that of malloc.
+ * Returns HLL_OK or HLL_ARGUMENT. Allocates nothing. */
+hll_status hll_counter_init(hll_counter *counter, unsigned lg_k, hll_allocator allocator, void *context);
+
+/* Frees the memory of a counter, which is then empty, with its bound as its lg_k. */
+void hll_counter_free(hll_counter *counter);
+
+/* Removes all values, and keeps the memory for others. The counter is then empty, with its bound as its lg_k. */
+void hll_counter_reset(hll_counter *counter);
+
+/* Add a value, values delimited by `ends` (all or none), or raw coupons (all or none).
+ * Return HLL_OK, HLL_ARGUMENT or HLL_MEMORY. */
+hll_status hll_counter_add(hll_counter *counter, const uint8_t *value, size_t len);
+hll_status hll_counter_add_many(hll_counter *counter, const uint8_t *values, size_t values_len, const size_t *ends,
+                                size_t n);
+hll_status hll_counter_add_coupons(hll_counter *counter, const uint32_t *coupons, size_t n);
+
+/* Join the sketch of an image, or of another counter. A counter that was initialised with an lg_k merges sketches of any lg_k,
+ * under it as the bound, and then has the smallest lg_k. An open one merges sketches of one lg_k, and returns HLL_OTHER_LG_K for
+ * another.
+ * Return HLL_OK, 1 to 11, HLL_MEMORY or HLL_OTHER_LG_K. */
+hll_status hll_counter_join(hll_counter *counter, const uint8_t *image, size_t len);
+hll_status hll_counter_join_counter(hll_counter *counter, const hll_counter *other);
+
+/* Sets the bound of joins from now on: 0, with which the counter merges sketches of its lg_k only, or an lg_k of at least the
+ * counter's, with which it merges sketches of any. An open counter becomes a new one of that lg_k.
+ * Returns HLL_OK or HLL_ARGUMENT. */
+hll_status hll_counter_bind(hll_counter *counter, unsigned lg_max_k);
+
+/* Makes one counter the copy of another. Both are initialised, and `to` keeps its own allocator.
+ * Returns HLL_OK or HLL_MEMORY. */
+hll_status hll_counter_copy(hll_counter *to, const hll_counter *from);
+
+/* Sorts the coupons, so that reading copies nothing. Returns HLL_OK. */
+hll_status hll_counter_settle(hll_counter *counter);
+
+/* Makes room for any number of values, so that adding allocates nothing until a shrink.
+ * Returns HLL_OK, HLL_MEMORY, or HLL_ARGUMENT if the lg_k is open. */
+hll_status hll_counter_reserve(hll_counter *counter);
+
+/* Frees the room that the sketch doesn't need. If an allocation fails, the counter keeps it. */
+void hll_counter_shrink(hll_counter *counter);
+
+/* Writes the image at this width. Returns HLL_OK, HLL_ARGUMENT, HLL_MEMORY or HLL_BUFFER (*size is the size of the image). */
+hll_status hll_counter_image(const hll_counter *counter, unsigned width, uint8_t *out, size_t room, size_t *size);
+
+/* Estimates as hll_estimate does. Returns HLL_OK or HLL_MEMORY. */
+hll_status hll_counter_estimate(const hll_counter *counter, hll_estimation *estimation);
+
+/* Reports what the sketch is, as hll_state_info does.
+ * Returns HLL_OK, or HLL_ARGUMENT if summary_size is not sizeof *summary. */
+hll_status hll_counter_info(const hll_counter *counter, hll_state_summary *summary, size_t summary_size);
 
 /* ---- what an image says ---- */
 
@@ -445,228 +545,6 @@ hll_status hll_registers_histogram(const uint8_t *registers, size_t count, hll_h
  * packed registers, and the image. */
 hll_status hll_registers_image(const uint8_t *registers, size_t count, unsigned width, uint8_t *out, size_t room,
                                size_t *size);
-
-/* ---- states ----
- *
- * A sketch that grows in caller-owned memory: coupons while it is small, registers later. The caller frees that memory, and
- * nothing else.
- *
- *     size_t room = HLL_STATE_NEW, size;
- *     void *state = malloc(room);
- *     hll_state_new(12, state, room);
- *     while (hll_state_add_value(state, room, &size, value, len) == HLL_BUFFER)
- *         state = realloc(state, room = size);
- *     hll_state_estimate(state, room, &found);
- *     hll_state_image(state, room, 8, out, sizeof out, &size);
- *
- * (A program also checks the statuses, and that malloc and realloc don't return NULL.)
- *
- * On HLL_BUFFER the sketch is unchanged, and *size bytes are enough for the same call. For coupons they are enough for half as
- * many again and eight more, but no more than the largest set needs. For registers they are exactly what is needed, and they are
- * at most HLL_STATE_MOST. So a loop reallocates only a few times. The bytes may be moved, and need no alignment. They are the
- * same on processors of either byte order. They change with the version of the library, which rejects bytes of another version
- * (HLL_ARGUMENT; hll_state_check distinguishes them): store images in files and columns, not states.
- *
- * The image of a state is the image that hll_image_add and hll_images_union would make of an empty sketch with the same values
- * and sketches. Without values it is the image of an empty list. If the bytes are not a state, a call returns HLL_ARGUMENT. If
- * other code changed the bytes, a call may return any result, but reads and writes nothing outside the room. If a register
- * is above 63, calls that read it return HLL_REGISTER.
- *
- * A state takes 40 bytes, and four for each coupon. It takes more if values repeat, because a repeated coupon stays until the
- * coupons are sorted. Before a call returns HLL_BUFFER it sorts them, unless at most half of the coupons is unsorted (a sixteenth,
- * where *size is the room of registers).
- * When coupons become registers it needs HLL_STATE_MOST, because the registers are made next to the coupons.
- */
-
-/* The size of a new state, in bytes. */
-#define HLL_STATE_NEW HLL_CAST(size_t, 40)
-
-/* Enough bytes for every state of this lg_k: 40, one for each register, and half of that number (64 if lg_k is below 7) for the
- * coupons that become registers. */
-#define HLL_STATE_MOST(lg_k)                                                                                               \
-    (HLL_STATE_NEW + (HLL_CAST(size_t, 1) << (lg_k)) +                                                                     \
-     ((lg_k) < 7 ? HLL_CAST(size_t, 64) : HLL_CAST(size_t, 1) << ((lg_k)-1)))
-
-/* Makes the state of an empty sketch. If lg_k is 0, its lg_k is open: the first image or state with values that is merged into it
- * decides its lg_k, or the first lg_max_k (hll_state_join). Until then adding a value returns HLL_ARGUMENT, its estimate is 0, and
- * its image is the empty list of the greatest lg_k of the empty images that were merged, or of lg_k 4.
- * Returns HLL_OK, HLL_ARGUMENT, or HLL_BUFFER if room is below HLL_STATE_NEW. Allocates nothing. */
-hll_status hll_state_new(unsigned lg_k, void *state, size_t room);
-
-/* Reports what a state says: its size, its lg_k, the width of the images that were merged into it, whether it has registers,
- * whether it is empty. summary_size is sizeof *summary. If it is not the size in this version of the library, the caller was
- * compiled for another version, and the call returns HLL_ARGUMENT.
- *
- * If a state has no values, an image with values counts alone for the width: the images before it no longer count. If a state has
- * values, an image without values doesn't count. Coupons are reported as they are kept: the image of a state is a list if at most
- * seven of them are distinct, and has registers if there are too many for a set.
- * Returns HLL_OK or HLL_ARGUMENT. Changes no byte of the state. Allocates nothing. */
-hll_status hll_state_info(const void *state, size_t room, hll_state_summary *summary, size_t summary_size);
-
-/* Returns whether bytes are a state: HLL_OK, HLL_STATE if a library with another version of states wrote them, or HLL_ARGUMENT.
- * After another call returned HLL_ARGUMENT, it says whether processes with different versions exchanged a state. (The other calls
- * don't look, as that would cost every added value a nanosecond.) Changes no byte of the state. Allocates nothing. Not proved. */
-hll_status hll_state_check(const void *state, size_t room);
-
-/* Adds n values to a state, delimited by `ends`, as hll_image_add does.
- * Returns HLL_OK, HLL_ARGUMENT or HLL_BUFFER. Allocates nothing. */
-hll_status hll_state_add(void *state, size_t room, size_t *size, const uint8_t *values, size_t values_len,
-                         const size_t *ends, size_t n);
-
-/* Adds one value to a state.
- * Returns HLL_OK, HLL_ARGUMENT or HLL_BUFFER. Allocates nothing. */
-hll_status hll_state_add_value(void *state, size_t room, size_t *size, const uint8_t *value, size_t len);
-
-/* Adds n raw coupons to a state, as hll_coupons writes them. If a raw coupon has the value 0, the call returns HLL_ARGUMENT.
- * Returns HLL_OK, HLL_ARGUMENT or HLL_BUFFER. Allocates nothing. */
-hll_status hll_state_add_coupons(void *state, size_t room, size_t *size, const uint32_t *coupons, size_t n);
-
-/* Merges the sketch of an image into a state: at each slot the state gets the greater value of both, at the smaller lg_k, as in
- * hll_images_union with the lg_k of the state as its lg_max_k. The state keeps the smaller lg_k. An empty image adds nothing.
- *
- *     lg_max_k 0     Only sketches of one lg_k are merged. If the state has values, and the image has values of another lg_k,
- *                    the call returns HLL_OTHER_LG_K. A state without values takes the lg_k of the first image with values,
- *                    and until then the greatest lg_k of the empty images. Make the state with hll_state_new(0, ..).
- *     lg_max_k 4-21  Images of any lg_k are merged. Make the state with hll_state_new(lg_max_k, ..), or with lg_k 0: then
- *                    the first call that returns HLL_OK makes it that state. If lg_max_k is below the lg_k of a state that
- *                    isn't open, the call returns HLL_ARGUMENT.
- *
- * On HLL_BUFFER *size bytes are enough for the same call, at most HLL_STATE_MOST of the greater lg_k. A loop over images:
- *
- *     while ((status = hll_state_join(0, state, room, &size, image, len)) == HLL_BUFFER)
- *         state = realloc(state, room = size);
- *
- * Returns HLL_OK, 1 to 11, HLL_ARGUMENT, HLL_MEMORY, HLL_BUFFER or HLL_OTHER_LG_K. Allocates as hll_image_check does. */
-hll_status hll_state_join(unsigned lg_max_k, void *state, size_t room, size_t *size, const uint8_t *image, size_t len);
-
-/* Merges the sketch of another state into a state, as hll_state_join does with an image. The bytes of the other state may
- * change if it has coupons, but not its sketch. The two states must not overlap.
- * Returns HLL_OK, HLL_REGISTER, HLL_ARGUMENT, HLL_BUFFER or HLL_OTHER_LG_K. Allocates nothing. */
-hll_status hll_state_join_state(unsigned lg_max_k, void *state, size_t room, size_t *size, void *other, size_t other_room);
-
-/* Writes the image of a state at this width. The bytes of the state may change if it has coupons, because these are sorted, but
- * not its sketch. If the call returns HLL_OK, calls that read the state change no byte of it until something is added or merged.
- * Returns HLL_OK, HLL_REGISTER, HLL_ARGUMENT, HLL_MEMORY or HLL_BUFFER (*size is the size of the image). Allocates the image,
- * and for 4-bit registers with exceptions a map and two copies of them. */
-hll_status hll_state_image(void *state, size_t room, unsigned width, uint8_t *out, size_t out_room, size_t *size);
-
-/* Estimates from a state, as hll_estimate does. The bytes of the state may change if it has coupons, but not its sketch, as in
- * hll_state_image.
- * Returns HLL_OK, HLL_REGISTER or HLL_ARGUMENT. Allocates nothing. */
-hll_status hll_state_estimate(void *state, size_t room, hll_estimation *estimation);
-
-/* Writes the image of a settled state at this width, and no byte of the state. A state is settled after hll_state_image or
- * hll_state_estimate has read it, until something is added or merged; a state with registers always is.
- * Returns HLL_OK, HLL_REGISTER, HLL_ARGUMENT (also if the state isn't settled), HLL_MEMORY or HLL_BUFFER. Allocates as
- * hll_state_image does. */
-hll_status hll_state_settled_image(const void *state, size_t room, unsigned width, uint8_t *out, size_t out_room,
-                                   size_t *size);
-
-/* Estimates from a settled state, and writes no byte of it.
- * Returns HLL_OK, HLL_REGISTER or HLL_ARGUMENT (also if the state isn't settled). Allocates nothing. */
-hll_status hll_state_settled_estimate(const void *state, size_t room, hll_estimation *estimation);
-
-/* ---- counters ----
- *
- * A sketch that grows by itself: a state and its memory. The struct is the caller's, and holds a state of up to 14 coupons. A larger
- * state is in memory from one function of the caller's, so a counter can live in any heap.
- *
- *     hll_counter counter;
- *     hll_counter_init(&counter, 12, NULL, NULL);
- *     hll_counter_add(&counter, value, len);
- *     hll_counter_estimate(&counter, &found);
- *     hll_counter_image(&counter, 8, out, sizeof out, &size);
- *     hll_counter_free(&counter);
- *
- * (A program also checks the statuses.)
- *
- * If a call returns anything but HLL_OK, the sketch is as it was, and the counter can be used and freed. Nothing that the call
- * allocated is lost.
- *
- * Calls with a const hll_counter change nothing, so any number of threads may make them on one counter at once, if threads may
- * call the allocator at once. During any other call on a counter no other thread may use it. To be read, a counter is copied if its
- * coupons aren't sorted: to the stack, or to memory of the allocator if that takes more than 2 KiB. hll_counter_settle sorts them,
- * so that readers copy nothing.
- *
- * What a counter counts, merges and writes, and what it estimates from registers, is decided by the proved calls on states alone.
- * The C around them (bindings/c/counter.c) gets memory, copies bytes to it and frees it. It is tested, not proved.
- */
-
-/* The number of coupons for which a counter has room in the struct. */
-#define HLL_COUNTER_COUPONS 14
-
-/* Allocates `size` bytes if memory is NULL, and returns NULL if it can't. Frees memory if size is 0. It is called in these two ways
- * alone, and has to return: a jump out of it (longjmp, or an exception) can lose memory. */
-typedef void *(*hll_allocator)(void *context, void *memory, size_t size);
-
-/* Only the calls below use the members. The struct may be moved to another address, but a copy of it must not be used as a second
- * counter (hll_counter_copy). */
-typedef struct hll_counter {
-    hll_allocator allocator;
-    void *context;
-    uint32_t room;       /* the bytes of at.state, or 0: then the state is in at.first */
-    uint8_t lg_max_k;    /* the bound of joins, or 0 for none */
-    uint8_t is_loose;    /* whether the state grew to the room that coupons need to become registers, and still has coupons */
-    uint8_t is_reserved; /* whether it keeps room that it doesn't need */
-    union {
-        uint8_t *state;
-        uint8_t first[40 + 4 * HLL_COUNTER_COUPONS];
-    } at;
-} hll_counter;
-
-/* Makes an empty counter of an lg_k of 4 to 21; or one whose lg_k is open (0): the first image or counter with values that is
- * joined decides it, and until then adding returns HLL_ARGUMENT (hll_state_new). If allocator is NULL, it is that of malloc.
- * Returns HLL_OK or HLL_ARGUMENT. Allocates nothing. */
-hll_status hll_counter_init(hll_counter *counter, unsigned lg_k, hll_allocator allocator, void *context);
-
-/* Frees the memory of a counter, which is then empty, with its bound as its lg_k. */
-void hll_counter_free(hll_counter *counter);
-
-/* Removes all values, and keeps the memory for others. The counter is then empty, with its bound as its lg_k. */
-void hll_counter_reset(hll_counter *counter);
-
-/* Add a value, values delimited by `ends` (all or none), or raw coupons (all or none).
- * Return HLL_OK, HLL_ARGUMENT or HLL_MEMORY. */
-hll_status hll_counter_add(hll_counter *counter, const uint8_t *value, size_t len);
-hll_status hll_counter_add_many(hll_counter *counter, const uint8_t *values, size_t values_len, const size_t *ends,
-                                size_t n);
-hll_status hll_counter_add_coupons(hll_counter *counter, const uint32_t *coupons, size_t n);
-
-/* Join the sketch of an image, or of another counter. A counter that was initialised with an lg_k merges sketches of any lg_k,
- * under it as the bound, and then has the smallest lg_k. An open one merges sketches of one lg_k, and returns HLL_OTHER_LG_K for
- * another.
- * Return HLL_OK, 1 to 11, HLL_MEMORY or HLL_OTHER_LG_K. */
-hll_status hll_counter_join(hll_counter *counter, const uint8_t *image, size_t len);
-hll_status hll_counter_join_counter(hll_counter *counter, const hll_counter *other);
-
-/* Sets the bound of joins from now on: 0, with which the counter merges sketches of its lg_k only, or an lg_k of at least the
- * counter's, with which it merges sketches of any. An open counter becomes a new one of that lg_k.
- * Returns HLL_OK or HLL_ARGUMENT. */
-hll_status hll_counter_bind(hll_counter *counter, unsigned lg_max_k);
-
-/* Makes one counter the copy of another. Both are initialised, and `to` keeps its own allocator.
- * Returns HLL_OK or HLL_MEMORY. */
-hll_status hll_counter_copy(hll_counter *to, const hll_counter *from);
-
-/* Sorts the coupons, so that reading copies nothing. Returns HLL_OK. */
-hll_status hll_counter_settle(hll_counter *counter);
-
-/* Makes room for any number of values, so that adding allocates nothing until a shrink.
- * Returns HLL_OK, HLL_MEMORY, or HLL_ARGUMENT if the lg_k is open. */
-hll_status hll_counter_reserve(hll_counter *counter);
-
-/* Frees the room that the sketch doesn't need. If an allocation fails, the counter keeps it. */
-void hll_counter_shrink(hll_counter *counter);
-
-/* Writes the image at this width. Returns HLL_OK, HLL_ARGUMENT, HLL_MEMORY or HLL_BUFFER (*size is the size of the image). */
-hll_status hll_counter_image(const hll_counter *counter, unsigned width, uint8_t *out, size_t room, size_t *size);
-
-/* Estimates as hll_estimate does. Returns HLL_OK or HLL_MEMORY. */
-hll_status hll_counter_estimate(const hll_counter *counter, hll_estimation *estimation);
-
-/* Reports what the sketch is, as hll_state_info does.
- * Returns HLL_OK, or HLL_ARGUMENT if summary_size is not sizeof *summary. */
-hll_status hll_counter_info(const hll_counter *counter, hll_state_summary *summary, size_t summary_size);
 
 /* ---- coupons ---- */
 

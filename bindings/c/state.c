@@ -3,7 +3,7 @@
  * States: the bytes of a caller are passed to the proved calls as elements of four bytes. And whether bytes are a state of another
  * version. Plain C, not proved.
  */
-#include "hll.h"
+#include "hll_state.h"
 
 /* Declares the proved calls that are wrapped, which have the prefix proved_ here. */
 struct estimate; /* of estimate.c */

@@ -4,6 +4,7 @@
 //
 //     make -C ../c && g++ -std=c++11 -O2 -I../c -I. -o bench bench.cpp ../c/build/libhll.a && ./bench
 #include <hll.hpp>
+#include <hll_state.h>
 
 #include <cstdio>
 #include <cstdlib>

@@ -11,9 +11,9 @@
 //     week.update_image(image.data(), image.size());
 //     std::cout << week.estimate() << " distinct values\n";
 //
-// Memory. A sketch and a union own their memory and free it. The object itself has 120 bytes, and holds up to 16 values.
+// Memory. A sketch and a union own their memory and free it. The object itself has 128 bytes, and holds up to 14 values.
 // With more it allocates 40 bytes and four for each value, and up to half as much again. Registers have one byte each and
-// 40 bytes, at every width. While coupons become registers there is room for both: at lg_k 12 from 401 to 528 values
+// 40 bytes, at every width. While a call makes registers of coupons there is room for both
 // (docs/CHOOSING.md, "Memory"). memory_size() returns the bytes that are allocated, and shrink_to_fit() frees those that
 // are not used. Copies are independent. A sketch that was moved from is empty, and can be used again.
 //

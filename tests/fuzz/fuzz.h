@@ -3,7 +3,7 @@
 #ifndef FUZZ_H
 #define FUZZ_H
 
-#include "hll.h"
+#include "hll_state.h"
 #include "plain.h"
 
 /* Ends the program if a check fails, as a fuzzer expects it, and says which. */

@@ -49,7 +49,7 @@ fi
 
 test_header() {
     for standard in c99 c11 c17; do
-        expect "header as $standard" $CC $strict -std=$standard -x c -fsyntax-only hll.h
+        expect "headers as $standard" $CC $strict -std=$standard -x c -fsyntax-only hll_state.h
     done
     expect "estimate.c as c99" $CC $strict -std=c99 -c -o "$tests/estimate.o" estimate.c
     expect "merge.c as c99" $CC $strict -std=c99 -I. -c -o "$tests/example.o" ../../examples/merge.c
@@ -59,7 +59,7 @@ test_header() {
         return
     fi
     for standard in c++11 c++17; do
-        expect "header as $standard" $CXX $strict -std=$standard -x c++ -fsyntax-only hll.h
+        expect "headers as $standard" $CXX $strict -std=$standard -x c++ -fsyntax-only hll_state.h
     done
     expect 'a program in C++' $CXX $strict -std=c++11 -o "$tests/header" tests/header.cpp "$build/libhll.a"
     run 'C++' "$tests/header"
@@ -67,7 +67,7 @@ test_header() {
 
 # The calls that the header declares, and the names that a library shows.
 declared() {
-    sed -n 's/^\(hll_status \|uint32_t \|void \|const char \*\)\(hll_[a-z_0-9]*\)(.*/\2/p' hll.h | sort
+    sed -n 's/^\(hll_status \|uint32_t \|void \|const char \*\)\(hll_[a-z_0-9]*\)(.*/\2/p' hll.h hll_state.h | sort
 }
 
 shown() {
@@ -570,7 +570,7 @@ try_install() {
     place=$(pwd)/$tests/installed
     rm -rf "$place"
     make -s install DESTDIR="$place" PREFIX=/usr || return 1
-    for file in include/hll.h include/hll.hpp lib/libhll.a lib/libhll.so lib/libhll.so.0 "lib/libhll.so.$version" lib/pkgconfig/hll.pc; do
+    for file in include/hll.h include/hll_state.h include/hll.hpp lib/libhll.a lib/libhll.so lib/libhll.so.0 "lib/libhll.so.$version" lib/pkgconfig/hll.pc; do
         [ -f "$place/usr/$file" ] || { echo "$file is missing"; return 1; }
     done
     flags="-I$place/usr/include -L$place/usr/lib -lhll"

@@ -3,7 +3,7 @@
 #ifndef TEST_H
 #define TEST_H
 
-#include "../hll.h"
+#include "../hll_state.h"
 
 #include <stdio.h>
 #include <stdlib.h>

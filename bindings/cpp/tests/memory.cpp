@@ -3,6 +3,7 @@
 // with -Wl,--wrap=malloc,--wrap=realloc,--wrap=free.
 #include "test.hpp"
 
+#include <algorithm>
 #include <sys/mman.h>
 
 using hll::sketch;
@@ -232,18 +233,17 @@ static void test_room()
 static void test_memory_size()
 {
     sketch one(12);
-    bool is_right = sizeof one == 120 && sizeof(union_) == 120;
+    bool is_right = sizeof one == 128 && sizeof(union_) == 128;
     for (size_t n = 0; n <= 2000 && is_right; n++) {
         const size_t room = one.memory_size(), coupons = 40 + 4 * n;
-        is_right = n <= 16    ? room == 0
-                   : n <= 400 ? room >= coupons - 4 * 16 && room <= coupons + coupons / 2 + 32
-                   : n <= 528 ? room == HLL_STATE_MOST(12)
-                              : room == 40 + 4096;
+        is_right = n <= HLL_COUNTER_COUPONS ? room == 0
+                   : n <= 384               ? room >= coupons && room <= coupons + coupons / 2 + 32
+                                            : room == 40 + 4096;
         if (!is_right)
             std::printf("%zu values: %zu bytes\n", n, room);
         sketch shrunk = one;
         shrunk.shrink_to_fit();
-        is_right &= shrunk == one && shrunk.memory_size() <= (n <= 16 ? 0 : n <= 400 ? coupons : 40 + 4096);
+        is_right &= shrunk == one && shrunk.memory_size() <= (n <= HLL_COUNTER_COUPONS ? 0 : n <= 384 ? coupons : 40 + 4096);
         one.update(n);
     }
     CHECK(is_right);
@@ -251,9 +251,8 @@ static void test_memory_size()
         union_ all(lg_k);
         for (int part = 0; part < 40; part++) { // 10, 20, .. 400 values
             all.update(filled(lg_k, six, 1000 * part, 1000 * part + 10 * (part + 1)));
-            CHECK(all.memory_size() <= HLL_STATE_MOST(lg_k));
+            CHECK(all.memory_size() <= 40 + std::max(size_t(1) << lg_k, 4 * (size_t(3) << lg_k) / 32));
         }
-        all.update(0); // a change after the one that made registers, which frees the room of coupons
         CHECK(all.memory_size() == 40 + (size_t(1) << lg_k));
     }
 }

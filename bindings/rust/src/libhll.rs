@@ -53,19 +53,6 @@ macro_rules! calls {
 // scripts/calls.py writes what follows, from bindings/c/hll.h
 calls! {
     "hll_0_2_processor" fn hll_processor() -> *const c_char;
-    "hll_0_2_image_head" fn hll_image_head(image: *const u8, len: usize, head: *mut Head, head_size: usize) -> Status;
-    "hll_0_2_image_check" fn hll_image_check(image: *const u8, len: usize) -> Status;
-    "hll_0_2_image_trailing" fn hll_image_trailing(bytes: *const u8, len: usize, more: *mut usize) -> Status;
-    "hll_0_2_images_unionv" fn hll_images_unionv(
-        lg_max_k: c_uint,
-        width: c_uint,
-        parts: *const Bytes,
-        n: usize,
-        out: *mut u8,
-        room: usize,
-        size: *mut usize,
-        failed: *mut usize
-    ) -> Status;
     "hll_0_2_counter_init" fn hll_counter_init(
         counter: *mut Counter,
         lg_k: c_uint,
@@ -94,6 +81,19 @@ calls! {
         counter: *const Counter,
         summary: *mut Summary,
         summary_size: usize
+    ) -> Status;
+    "hll_0_2_image_head" fn hll_image_head(image: *const u8, len: usize, head: *mut Head, head_size: usize) -> Status;
+    "hll_0_2_image_check" fn hll_image_check(image: *const u8, len: usize) -> Status;
+    "hll_0_2_image_trailing" fn hll_image_trailing(bytes: *const u8, len: usize, more: *mut usize) -> Status;
+    "hll_0_2_images_unionv" fn hll_images_unionv(
+        lg_max_k: c_uint,
+        width: c_uint,
+        parts: *const Bytes,
+        n: usize,
+        out: *mut u8,
+        room: usize,
+        size: *mut usize,
+        failed: *mut usize
     ) -> Status;
     "hll_0_2_coupon" fn hll_coupon(value: *const u8, len: usize) -> u32;
     "hll_0_2_hip_estimate" fn hll_hip_estimate(image: *const u8, len: usize, estimation: *mut Estimation) -> Status;
