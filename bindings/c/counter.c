@@ -28,7 +28,7 @@ static void *by_malloc(void *context, void *memory, size_t size)
 {
     (void)context;
     if (size > 0)
-        return malloc(size);
+        return realloc(memory, size);
     free(memory);
     return NULL;
 }
@@ -67,25 +67,35 @@ static void release(hll_counter *counter)
     counter->room = 0;
 }
 
-/* Moves the state to memory of this size, which is enough for it. */
-static hll_status move(hll_counter *counter, size_t room)
+/* Copies the state to more memory. */
+static hll_status grow(hll_counter *counter, size_t room)
 {
     uint8_t *state = CALL(counter, NULL, room);
     if (state == NULL)
         return HLL_MEMORY;
-    memcpy(state, state_of(counter), min(room, room_of(counter)));
+    memcpy(state, state_of(counter), room_of(counter));
     release(counter);
     counter->at.state = state;
     counter->room = (uint32_t)room;
     return HLL_OK;
 }
 
-/* Moves the state if a call has asked for memory. Returns whether the call is to be made again. */
+/* Frees all but so many bytes of the memory, if it has more. If that fails, nothing changes. */
+static void shrink(hll_counter *counter, size_t size)
+{
+    uint8_t *state = size < counter->room ? CALL(counter, counter->at.state, size) : NULL;
+    if (state != NULL) {
+        counter->at.state = state;
+        counter->room = (uint32_t)size;
+    }
+}
+
+/* Grows if a call has asked for memory. Returns whether the call is to be made again. */
 static int has_grown(hll_counter *counter, hll_status *status, size_t room)
 {
     if (*status != HLL_BUFFER)
         return 0;
-    *status = move(counter, room);
+    *status = grow(counter, room);
     return *status == HLL_OK;
 }
 
@@ -97,8 +107,8 @@ static void trim(hll_counter *counter)
     if (counter->is_reserved)
         return;
     counter->is_loose = !has_registers && counter->room >= HLL_STATE_MOST(said.lg_k);
-    if (has_registers && said.size < counter->room)
-        (void)move(counter, (size_t)said.size);
+    if (has_registers)
+        shrink(counter, (size_t)said.size);
 }
 
 /* Does so after the call for which a state grew. If it has got the room of registers, its coupons are sorted: then they become
@@ -166,7 +176,7 @@ static hll_status make_room(hll_counter *counter, const uint8_t *image, size_t l
         return HLL_OK;
     room = (size_t)summary_of(counter).size;
     room += head.stage == HLL_REGISTERS ? (size_t)1 << min(head.lg_k, most) : 4 * (size_t)head.count;
-    return room <= sizeof counter->at.first ? HLL_OK : move(counter, min(room, HLL_STATE_MOST(most)));
+    return room <= sizeof counter->at.first ? HLL_OK : grow(counter, min(room, HLL_STATE_MOST(most)));
 }
 
 hll_status hll_counter_join(hll_counter *counter, const uint8_t *image, size_t len)
@@ -350,7 +360,7 @@ hll_status hll_counter_reserve(hll_counter *counter)
     if (said.is_open)
         return HLL_ARGUMENT;
     if (said.stage != HLL_REGISTERS && room_of(counter) < most)
-        status = move(counter, most);
+        status = grow(counter, most);
     if (status == HLL_OK) {
         counter->is_reserved = 1;
         counter->is_loose = 0;
@@ -360,8 +370,6 @@ hll_status hll_counter_reserve(hll_counter *counter)
 
 void hll_counter_shrink(hll_counter *counter)
 {
-    size_t size = (size_t)summary_of(counter).size;
     counter->is_loose = counter->is_reserved = 0;
-    if (size < counter->room)
-        (void)move(counter, size);
+    shrink(counter, (size_t)summary_of(counter).size);
 }

@@ -288,8 +288,9 @@ const char *hll_processor(void);
 /* The number of coupons for which a counter has room in the struct. */
 #define HLL_COUNTER_COUPONS 14
 
-/* Allocates `size` bytes if memory is NULL, and returns NULL if it can't. Frees memory if size is 0. It is called in these two ways
- * alone, and has to return: a jump out of it (longjmp, or an exception) can lose memory. */
+/* Allocates `size` bytes if memory is NULL, frees memory if size is 0, and otherwise makes memory smaller, as realloc does. It is never
+ * called to make memory larger. It returns NULL if it can't allocate; then memory is as it was. It has to return: a jump out of it
+ * (longjmp, or an exception) can lose memory. */
 typedef void *(*hll_allocator)(void *context, void *memory, size_t size);
 
 /* Only the calls below use the members. The struct may be moved to another address, but a copy of it must not be used as a second
@@ -348,7 +349,7 @@ hll_status hll_counter_settle(hll_counter *counter);
  * Returns HLL_OK, HLL_MEMORY, or HLL_ARGUMENT if the lg_k is open. */
 hll_status hll_counter_reserve(hll_counter *counter);
 
-/* Frees the room that the sketch doesn't need. If an allocation fails, the counter keeps it. */
+/* Frees the room that the sketch doesn't need. If the allocator returns NULL, the counter keeps it. */
 void hll_counter_shrink(hll_counter *counter);
 
 /* Writes the image at this width. Returns HLL_OK, HLL_ARGUMENT, HLL_MEMORY or HLL_BUFFER (*size is the size of the image). */

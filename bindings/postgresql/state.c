@@ -3,12 +3,15 @@
 
 #include "miscadmin.h"
 
-/* The allocator of counters: that of a memory context. It has to return (hll.h), so it raises no error if there is no memory. */
+/* The allocator of counters: that of a memory context. It has to return (hll.h), so it raises no error if there is no memory. (A chunk
+ * is only made smaller, for which there is always memory.) */
 static void *
 allocate(void *context, void *memory, size_t size)
 {
-	if (size > 0)
+	if (memory == NULL)
 		return MemoryContextAllocExtended(context, size, MCXT_ALLOC_NO_OOM);
+	if (size > 0)
+		return repalloc(memory, size);
 	pfree(memory);
 	return NULL;
 }

@@ -8,7 +8,7 @@ static void *allocate(void *context, void *memory, size_t size)
 {
     (void)context;
     if (size > 0)
-        return sqlite3_malloc64(size);
+        return sqlite3_realloc64(memory, size);
     sqlite3_free(memory);
     return NULL;
 }

@@ -10,22 +10,24 @@ typedef struct heap {
     long fails_at; /* this allocation from now on fails; 0: none */
 } heap;
 
+/* Each block begins with its size. What is made smaller moves. */
 static void *allocate(void *context, void *memory, size_t size)
 {
     heap *of = context;
-    void *made;
-    CHECK((memory == NULL) == (size > 0), "neither an allocation nor the end of one: %p, %zu", memory, size);
-    if (size == 0) {
-        of->live--;
-        free(memory);
+    size_t *block = memory == NULL ? NULL : (size_t *)memory - 2, *made = NULL;
+    CHECK(block == NULL ? size > 0 : size < *block, "%zu bytes are asked for, of %zu", size, block == NULL ? 0 : *block);
+    if (size > 0 && of->fails_at != 0 && --of->fails_at == 0)
         return NULL;
+    if (size > 0) {
+        made = malloc(size + 2 * sizeof *made);
+        need(made != NULL, "memory");
+        *made = size;
+        if (block != NULL)
+            memcpy(made + 2, memory, size);
     }
-    if (of->fails_at != 0 && --of->fails_at == 0)
-        return NULL;
-    made = malloc(size);
-    need(made != NULL, "memory");
-    of->live++;
-    return made;
+    of->live += (made != NULL) - (block != NULL);
+    free(block);
+    return made == NULL ? NULL : made + 2;
 }
 
 static uint64_t seed;

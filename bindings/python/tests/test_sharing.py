@@ -100,6 +100,8 @@ class Allocator:
         if self.requests == self.fails_at:
             return None
         block = (ctypes.c_uint8 * size)()
+        if memory is not None:
+            ctypes.memmove(block, self.blocks.pop(memory), size)
         place = ctypes.addressof(block)
         self.blocks[place] = block
         return place

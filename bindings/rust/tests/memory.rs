@@ -26,6 +26,7 @@ extern "C" {
     fn __libc_malloc(size: usize) -> *mut c_void;
     fn __libc_calloc(n: usize, size: usize) -> *mut c_void;
     fn __libc_realloc(memory: *mut c_void, size: usize) -> *mut c_void;
+    fn malloc_usable_size(memory: *mut c_void) -> usize;
 }
 
 #[no_mangle]
@@ -46,9 +47,10 @@ unsafe extern "C" fn calloc(n: usize, size: usize) -> *mut c_void {
     }
 }
 
+/// What is made smaller stays where it is, and can't fail.
 #[no_mangle]
 unsafe extern "C" fn realloc(memory: *mut c_void, size: usize) -> *mut c_void {
-    if fails() {
+    if size > malloc_usable_size(memory) && fails() {
         null_mut()
     } else {
         __libc_realloc(memory, size)
@@ -79,7 +81,9 @@ fn filled(n: u64) -> HllSketch {
     sketch
 }
 
-const SIZES: [u64; 8] = [0, 1, 16, 32, 48, 288, 383, 20_000];
+/// How many values a sketch has in the object itself.
+const OWN: u64 = 14;
+const SIZES: [u64; 8] = [0, 1, OWN, 32, 48, 288, 383, 20_000];
 
 #[test]
 fn reads() {
@@ -87,10 +91,10 @@ fn reads() {
         let sketch = filled(n);
         let image = sketch.serialize();
         let is_unchanged = || sketch.serialize() == image;
-        assert_eq!(fail_each(|| sketch.try_clone(), is_unchanged), usize::from(n > 16));
+        assert_eq!(fail_each(|| sketch.try_clone(), is_unchanged), usize::from(n > OWN));
         assert!(fail_each(|| sketch.try_serialize(), is_unchanged) >= 2); // the library's image, and the answer
         assert_eq!(fail_each(|| sketch.try_estimation(), is_unchanged), 0);
-        assert!(fail_each(|| HllSketch::deserialize(&image), is_unchanged) >= 1);
+        assert!(fail_each(|| HllSketch::deserialize(&image), is_unchanged) >= usize::from(n > OWN));
         assert!(fail_each(|| union_of([&image, &image]), is_unchanged) >= 1);
         assert!(fail_each(|| merge_images(12, HllType::Hll8, &[&image, &image]), is_unchanged) >= 3);
         fail_each(|| check(&image), is_unchanged);

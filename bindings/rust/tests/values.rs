@@ -174,11 +174,11 @@ fn no_value_is_lost_as_memory_grows() {
 
 #[test]
 fn memory() {
-    assert!(std::mem::size_of::<HllSketch>() <= 120);
+    assert!(std::mem::size_of::<HllSketch>() <= 128);
     let heap = |n| filled(12, HllType::Hll8, n).estimated_size() - std::mem::size_of::<HllSketch>();
     assert_eq!(heap(0), 0);
-    assert_eq!(heap(16), 0);
-    assert!(heap(17) <= 136 && heap(200) <= 40 + 4 * 300);
+    assert_eq!(heap(14), 0);
+    assert!(heap(17) <= 160 && heap(200) <= 40 + 4 * 300);
     assert_eq!(heap(100_000), 4136);
     let registers = filled(12, HllType::Hll8, 100_000);
     assert_eq!(registers.clone().estimated_size(), registers.clone().clone().estimated_size());
