@@ -281,6 +281,19 @@ static long blocks_of(const hll_counter *counter)
     return counter->room != 0;
 }
 
+/* A checksum of a counter and of its memory, which no call on a const counter changes. */
+static uint64_t sum_of(const hll_counter *counter)
+{
+    const uint8_t *parts[2] = {(const uint8_t *)counter, counter->at.state};
+    const size_t sizes[2] = {sizeof *counter, counter->room};
+    uint64_t sum = UINT64_C(0xcbf29ce484222325);
+    size_t i, part;
+    for (part = 0; part < 2; part++)
+        for (i = 0; i < sizes[part]; i++)
+            sum = (sum ^ parts[part][i]) * UINT64_C(0x100000001b3);
+    return sum;
+}
+
 /* The bytes that the state of a counter takes. */
 static size_t size_of(const hll_counter *counter)
 {
@@ -329,9 +342,12 @@ static void walk(int steps)
             before = after = *m;
             wanted = model_act(kind, &after, &models[1 - at]);
             for (attempt = 1;; attempt++) {
+                const hll_counter *read = kind == IMAGE || kind == ESTIMATE ? counter : other;
+                const uint64_t sum = sum_of(read);
                 hll_status status;
                 of->fails_at = attempt;
                 status = act(kind, counter, other);
+                CHECK(sum_of(read) == sum, "kind %d changed a counter that it only reads", kind);
                 if (of->fails_at == 0 && status == HLL_MEMORY) {
                     failures[kind]++;
                     CHECK(is_model(counter, &before, 1), "kind %d, attempt %ld", kind, attempt);
