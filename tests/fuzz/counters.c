@@ -8,9 +8,8 @@
 static void *allocate(void *context, void *memory, size_t size)
 {
     CHECK(context == &heap, "another context");
-    CHECK((memory == NULL) == (size > 0), "neither an allocation nor the end of one");
     if (size > 0)
-        return fuzz_malloc(size);
+        return fuzz_realloc(memory, size);
     fuzz_free(memory);
     return NULL;
 }

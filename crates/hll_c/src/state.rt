@@ -38,8 +38,8 @@ use hll_registers::register_slice::RegisterSlice;
 use hll_registers::registers::Registers;
 use hll_state::header::{CouponTable, HEADER_LEN, Header, Held};
 use hll_state::memory::{
-    Begun, add_in_place, append, begin, begin_with, close, has_raised, is_open, may_hold_coupons,
-    open, resolve, set_open,
+    Begun, add_in_place, append, begin, begin_with, close, has_raised, is_open, open, resolve,
+    set_open,
 };
 use hll_state::registers::{as_bytes, small_registers};
 use std::alloc::Global;
@@ -130,42 +130,13 @@ pub(crate) fn add_value(state: &mut [[u8; 4]], value: &[u8], size: &mut usize) -
     ensures lg_k_open { is_lg_k_open state.new ≡ is_lg_k_open state.old }
 {
     let raw = Coupon::from_bytes(value).raw();
-    if may_hold_coupons(state) {
-        return add_few(state, raw, size);
+    if append(state, raw) {
+        return OK;
     }
     if has_raised(state, raw) {
         return OK;
     }
     add_raw(state, raw, size)
-}
-
-/// Adds a raw coupon: to coupons, if there is room for one more, by writing it and what changes in the header.
-#[inline(always)]
-fn add_few(state: &mut [[u8; 4]], raw: u32, size: &mut usize) -> u8
-    ensures added { AddsToState (TakesValues state.old) (raw ∷ []) state.old state.new size.old size.new result }
-    ensures grows { GrowsBy 1 state.old state.new }
-    ensures lg_k_open { is_lg_k_open state.new ≡ is_lg_k_open state.old }
-{
-    if append_in_place(state, raw) {
-        return OK;
-    }
-    add_raw(state, raw, size)
-}
-
-/// Appends a raw coupon to a state of coupons whose `lg_k` is not open, if there is room. Returns whether it did; if not, nothing
-/// changed.
-#[inline(always)]
-fn append_in_place(state: &mut [[u8; 4]], raw: u32) -> bool
-    ensures decided { result ≡ true → TakesValues state.old }
-    ensures added { result ≡ true → OfState state.old (λ x. IsStateOf state.new (add_in_turn x (raw ∷ []))) }
-    ensures grows { GrowsBy 1 state.old state.new }
-    ensures lg_k_open { is_lg_k_open state.new ≡ is_lg_k_open state.old }
-    ensures none { result ≡ false → state.new ≡ state.old }
-{
-    match open(state) {
-        Some(header) if !is_open(state) => append(state, header, raw),
-        _ => false,
-    }
 }
 
 /// Adds a raw coupon.

@@ -131,9 +131,9 @@ abbrev pub len_asked : ℕ → Held → ℕ → ℕ
 len_asked k (Coupons c) n = 10 + asked_for k (c.run.used + n)
 len_asked k (Registers s) n = 10 + 2 ^ (k - 2)
 
--- the tail, in which coupons may be repeated, has at most a quarter of the elements in use
+-- the tail, in which coupons may be repeated, has at most half of the elements in use
 abbrev pub HasShortTail : Held → Type 0
-HasShortTail (Coupons c) = c.run.used ≤ c.run.run + c.run.used / 4
+HasShortTail (Coupons c) = c.run.used ≤ c.run.run + c.run.used / 2
 HasShortTail (Registers s) = Unit {0}
 
 -- fewer elements are in use than may be

@@ -1,9 +1,12 @@
 -- SPDX-License-Identifier: Apache-2.0
 -- States in longer and in shorter memory (docs/MODEL.md, "States of a counter").
-use Rattle.std.specs.Prelude.{◌≡◌, ℕ, ◌+◌, ◌-◌, ◌^◌, ◌≤◌, List, ◌++◌, length, take, drop}
+use Rattle.std.specs.Prelude.{◌≡◌, ℕ, ◌+◌, ◌-◌, ◌^◌, ◌≤◌, Bool, List, ◌++◌, length, take, drop}
+use Rattle.hll_sketch.specs.Value.{Sketch}
 use Rattle.hll_state.specs.Counter.{sketch_in}
 use Rattle.hll_state.specs.Header.{elements_for}
+use Rattle.hll_state.specs.Joined.{AreEnoughToMerge, started_header}
 use Rattle.hll_state.specs.Memory.{HasHeader, HasRoomIn, AreEnough, is_open}
+use Rattle.hll_state.specs.Merged.{HasRoomToMerge}
 use Rattle.hll_state.specs.declared.header.Header.{Header}
 use Rattle.hll_state.specs.declared.header.Held.{Held}
 use Rattle.hll_state.specs.declared.header.Held.TheVariants.{Coupons, Registers}
@@ -34,7 +37,12 @@ abbrev pub MovedIsState : Type 0
 MovedIsState = (elements others : List (List ℕ)) (h : Header) → HasHeader elements h
     → take (10 + needed h.lg_k h.held) others ≡ take (10 + needed h.lg_k h.held) elements → IsSameState elements h others
 
--- a state that is moved to as many elements as were asked for has room for what they were asked for
+-- a state that is moved to as many elements as were asked for has room for the coupons that they were asked for
 abbrev pub AskedIsEnough : Type 0
 AskedIsEnough = (elements others : List (List ℕ)) (n len : ℕ) (are : AreEnough elements n len) → IsSameState elements are.header others → len ≤ length others
     → HasRoomIn others n (length others)
+
+-- and for the sketch that they were asked for
+abbrev pub AskedIsEnoughToJoin : Type 0
+AskedIsEnoughToJoin = (elements others : List (List ℕ)) (h : Header) (bounded : Bool) (y : Sketch) (len : ℕ) → AreEnoughToMerge y (started_header bounded h y) len
+    → IsSameState elements h others → len ≤ length others → (g : Header) → HasHeader others g → HasRoomToMerge (started_header bounded g y) y (length others - 10)

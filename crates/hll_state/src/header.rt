@@ -7,7 +7,7 @@ ghost use Rattle.hll_sketch.specs.Value.{IsLgK};
 ghost use Rattle.hll_state.specs.CouponRun.{raws};
 ghost use Rattle.hll_state.specs.Header as spec;
 ghost use Rattle.hll_state.specs.Prefixes.{needed};
-ghost use Rattle.hll_state.specs.Header.{header_of, held_in_header, coupons_in_header, state_in_header, wide, AreWithin, IsHeldWithin, IsWithin, HasRoomFor, HasRoom};
+ghost use Rattle.hll_state.specs.Header.{header_of, held_in_header, coupons_in_header, state_in_header, wide, AreWithin, IsHeldWithin, IsWithin, HasElementLeft, HasRoomFor, HasRoom};
 
 use crate::elements::{get, set};
 use crate::run::CouponRun;
@@ -235,6 +235,21 @@ impl CouponTable {
             && self.run.used <= most_used(lg_k)
             && elements_for(lg_k, self.run.used) <= room
     }
+
+    /// Returns whether `room` elements after the header are enough for the coupons and one more.
+    #[inline(always)]
+    pub(crate) fn have_room_for_one(&self, lg_k: u8, room: usize) -> bool
+        requires { IsLgK lg_k }
+        ensures within { result ≡ true → AreWithin lg_k self.now room }
+        ensures room { result ≡ true → HasRoomFor lg_k (spec.of_coupons self.now) 1 room }
+        ensures left { result ≡ true → HasElementLeft lg_k (spec.of_coupons self.now) }
+    {
+        is_size(lg_k, self.lg_size)
+            && (self.added || fits(self.run.used, self.lg_size))
+            && self.run.run <= self.run.used
+            && self.run.used < most_used(lg_k)
+            && elements_for(lg_k, self.run.used + 1) <= room
+    }
 }
 
 /// Returns whether a table at this `lg_k` may have 2^`lg_size` buckets.
@@ -346,7 +361,7 @@ fn held_in(elements: &[[u8; 4]]) -> Option<Held>
 
 /// Reads what a header says of coupons.
 #[inline(always)]
-fn coupons_in(elements: &[[u8; 4]]) -> CouponTable
+pub(crate) fn coupons_in(elements: &[[u8; 4]]) -> CouponTable
     requires { 10 ≤ length elements.now }
     ensures { result ≡ coupons_in_header (raws elements.now) }
 {

@@ -1,6 +1,6 @@
 // SPDX-License-Identifier: Apache-2.0
 //! The laws of states. Each law is a clause of a function that does nothing (docs/MODEL.md, "States of a counter").
-ghost use Rattle.hll_state.specs.Prefixes.{PrefixIsState, LongerIsState, MovedIsState, AskedIsEnough};
+ghost use Rattle.hll_state.specs.Prefixes.{PrefixIsState, LongerIsState, MovedIsState, AskedIsEnough, AskedIsEnoughToJoin};
 ghost use Rattle.hll_state.specs.Whole.{EmptyIsWhole, AddingLeavesWhole, JoiningLeavesWhole, JoiningIsMerging, JoiningAllIsMergingAll};
 
 /// Laws of the memory of a state:
@@ -8,13 +8,15 @@ ghost use Rattle.hll_state.specs.Whole.{EmptyIsWhole, AddingLeavesWhole, Joining
 /// - `prefix`: a prefix of a state is the same state, if it has the elements that the state takes. So a copy of these elements
 ///   is a copy of the sketch.
 /// - `longer`: a state is the same state in longer memory, whatever the elements after it hold.
-/// - `moved`, `asked`: a state is the same state wherever the elements that it takes are copied, and if there are as many
-///   elements as a call asked for, it has room for what the call was to add.
+/// - `moved`: a state is the same state wherever the elements that it takes are copied.
+/// - `asked`, `asked_to_join`: if there are as many elements as a call asked for, the state has room for the coupons that the call
+///   was to add, or for the sketch that it was to merge.
 pub fn memory()
     ensures prefix { PrefixIsState }
     ensures longer { LongerIsState }
     ensures moved { MovedIsState }
     ensures asked { AskedIsEnough }
+    ensures asked_to_join { AskedIsEnoughToJoin }
 {}
 
 /// Laws of the sketches of states that calls leave: legal, and with registers, if they have registers, that are not all 0.

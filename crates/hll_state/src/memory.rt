@@ -6,7 +6,7 @@ ghost use Rattle.hll_sketch.specs.Value.{IsLgK};
 ghost use Rattle.hll_state.specs.Counter.{sketch_in, IsResolved};
 ghost use Rattle.hll_state.specs.CouponRun.{raws};
 ghost use Rattle.hll_state.specs.Header as headers;
-ghost use Rattle.hll_state.specs.Header.{header_of, IsWithin, HasRoom, HasShortTail};
+ghost use Rattle.hll_state.specs.Header.{header_of, IsWithin, HasElementLeft, HasRoom, HasShortTail};
 ghost use Rattle.hll_state.specs.Memory as spec;
 ghost use Rattle.hll_state.specs.declared.header.CouponTable.{CouponTable};
 ghost use Rattle.hll_state.specs.declared.header.Header.{Header};
@@ -14,8 +14,9 @@ ghost use Rattle.hll_state.specs.Memory.{HasHeader, IsState, IsStateOf, OfState,
 
 use crate::elements::get;
 use crate::header::{
-    COUPONS, CouponTable, HEADER_LEN, Header, Held, are_few, most_elements, most_few, most_used,
+    COUPONS, CouponTable, HEADER_LEN, Header, Held, are_few, coupons_in, most_elements, most_few,
 };
+use hll_base::bounds::{MAX_LG_K, MIN_LG_K};
 use hll_registers::registers::two_to;
 
 /// Reads the header of a state. Returns `None` if the elements are not a state: too few, or not written by calls of this
@@ -112,33 +113,55 @@ pub fn add_in_place(elements: &mut [[u8; 4]], header: Header, raw: u32) -> bool
     header.push_in_place(&mut elements[HEADER_LEN..], raw)
 }
 
-/// Returns whether the first number is that of a state of coupons: for a caller that chooses a faster way.
+/// Appends a raw coupon to a state of coupons whose `lg_k` is not open, if an element is left for it. Returns whether one was; if
+/// not, nothing changed.
 #[inline(always)]
-pub fn may_hold_coupons(elements: &[[u8; 4]]) -> bool {
-    !elements.is_empty() && get(elements, 0) == COUPONS
-}
-
-/// Adds a raw coupon to a state of coupons whose header was read, if an element is left for it. Returns whether one was; if not,
-/// nothing changed.
-#[inline(always)]
-pub fn append(elements: &mut [[u8; 4]], header: Header, raw: u32) -> bool
-    requires header { HasHeader elements.old header }
+pub fn append(elements: &mut [[u8; 4]], raw: u32) -> bool
+    ensures decided { result ≡ true → spec.is_open elements.old ≡ false }
     ensures added { result ≡ true → OfState elements.old (λ x. IsStateOf elements.new (add_in_turn x (raw ∷ []))) }
     ensures grows { GrowsBy 1 elements.old elements.new }
     ensures lg_k_open { spec.is_open elements.new ≡ spec.is_open elements.old }
     ensures none { result ≡ false → elements.new ≡ elements.old }
 {
+    let Some(header) = open_for_one(elements) else {
+        return false;
+    };
     let Held::Coupons(coupons) = header.held else {
         return false;
     };
-    if coupons.run.used == most_used(header.lg_k)
-        || !header.has_room(1, elements.len() - HEADER_LEN)
-    {
-        return false;
-    }
     let more = coupons.with(&mut elements[HEADER_LEN..], header.lg_k, raw);
     write_used(elements, header, coupons, more);
     true
+}
+
+/// Reads the header of a state of coupons whose `lg_k` is not open, with an element left for one more. Returns `None` for all other
+/// elements.
+///
+/// It is `open` for the calls that are made most, and looks at each number once.
+#[inline(always)]
+fn open_for_one(elements: &[[u8; 4]]) -> Option<Header>
+    ensures some { IfSome result (HasHeader elements.now) }
+    ensures decided { IfSome result (λ h. spec.is_open elements.now ≡ false) }
+    ensures room { IfSome result (λ h. HasRoom h 1 (length elements.now - 10)) }
+    ensures left { IfSome result (λ h. HasElementLeft h.lg_k h.held) }
+{
+    if elements.len() < HEADER_LEN || get(elements, 0) != COUPONS {
+        return None;
+    }
+    // (above MAX_LG_K, too, if the bit is set that says that it is open)
+    let lg_k = get(elements, 1);
+    if lg_k < u32::from(MIN_LG_K) || u32::from(MAX_LG_K) < lg_k {
+        return None;
+    }
+    let coupons = coupons_in(elements);
+    if !coupons.have_room_for_one(lg_k as u8, elements.len() - HEADER_LEN) {
+        return None;
+    }
+    Some(Header {
+        lg_k: lg_k as u8,
+        widths: (get(elements, 2) % 8) as u8,
+        held: Held::Coupons(coupons),
+    })
 }
 
 /// Writes what has changed in a header once a coupon was added to coupons.
@@ -251,23 +274,29 @@ impl Header {
         if self.has_room(count, room) {
             return true;
         }
-        if !self.has_long_tail() {
+        if !self.has_long_tail(count) {
             return false;
         }
         self.resolve(body);
         self.has_room(count, room)
     }
 
-    /// Returns whether the tail has more than a quarter of the elements in use.
-    fn has_long_tail(&self) -> bool
+    /// Returns whether the tail is long enough to be sorted before the state grows by `count` coupons: if it has more than half of
+    /// the elements in use, or more than a sixteenth where the state would need room for registers.
+    fn has_long_tail(&self, count: usize) -> bool
+        requires { IsLgK self.now.lg_k }
         ensures { result ≡ false → HasShortTail self.now.held }
     {
-        match self.held {
-            Held::Coupons(coupons) => {
-                coupons.run.run.saturating_add(coupons.run.used / 4) < coupons.run.used
-            }
-            Held::Registers(_) => false,
-        }
+        let Held::Coupons(coupons) = self.held else {
+            return false;
+        };
+        let used = coupons.run.used;
+        let short = if are_few(self.lg_k, used.saturating_add(count)) {
+            used / 2
+        } else {
+            used / 16
+        };
+        coupons.run.run.saturating_add(short) < used
     }
 
     /// Returns a number of elements, header included, in which the state has room for `count` more coupons, and for half as

@@ -20,12 +20,12 @@ pub returns-clause-added : goal.returns-clause-added
 returns-clause-added c done =
     let e : List (List ℕ) = c.args.elements.now in
     let n : List (List ℕ) = c.write_used.new.elements in
-    let h : Header = c.args.header in
+    let h : Header = c.in-Some.header in
     let k : ℕ = h.lg_k in
     let more : CouponTable = c.with-more.result in
     let g : Header = record h { held = Coupons more } in
     let body : List (List ℕ) = c.with-more.new.body in
-    let has : HasHeader e h = c.requires.header in
+    let has : HasHeader e h = c.in-Some.ensures.some in
     let T : Pairs = set_of (c.args.raw ∷ []) in
     let fits : length body ≡ length e - 10 = c.with-more.auto.body ∙ ap length (rest_borrowed e) ∙ length-drop 10 e in
     let size : length n ≡ length e = c.write_used.auto.elements ∙ size_written e body has.there fits in
