@@ -3,6 +3,7 @@
 // with -Wl,--wrap=malloc,--wrap=realloc,--wrap=free.
 #include "test.hpp"
 
+#include <list>
 #include <sys/mman.h>
 
 using hll::sketch;
@@ -151,6 +152,10 @@ static void test_batches()
     sketch one;
     const auto begin = [&] { one = start; };
     CHECK(refuse_each(begin, [&] { one.update_many(values); }, [&] { return one == start; }) >= 1);
+    CHECK(one == filled(14, eight, -3, 5003));
+    const std::list<int> list(values.begin(), values.end());
+    CHECK(refuse_each(
+              begin, [&] { one.update_many(list); }, [&] { return one == start; }) >= 2);
     CHECK(one == filled(14, eight, -3, 5003));
 }
 
