@@ -36,6 +36,18 @@ want() {
     get "$@"
 }
 
+# Whether Debian's crates are here, or can be had, that cargo wants to see for the crate for Rust (bindings/rust/debian.toml).
+want_crates() {
+    has_crates || get librust-bincode-dev librust-data-encoding-dev librust-serde-dev librust-serde-json-dev
+    has_crates
+}
+
+has_crates() {
+    for crate in bincode data-encoding serde serde_json; do
+        [ -n "$(find /usr/share/cargo/registry -maxdepth 1 -name "$crate-[0-9]*" 2>/dev/null)" ] || return 1
+    done
+}
+
 # Ends a part that can't be run here: its tests are skipped, and nothing failed.
 skip_part() {
     echo "1..0 # SKIP $*"

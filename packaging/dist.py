@@ -48,7 +48,8 @@ PYTHON = "/usr/bin/python3"
 # what a release needs besides the build dependencies of debian/control.in
 NEEDED = {"binutils", "build-essential", "dpkg-dev", "gcc", "git", "make", "python3-pip", "python3-wheel"}
 # .. and `make release` in addition
-NEEDED_FOR_RELEASE = {"cargo", "mmdebstrap", "pandoc", "rustc"}
+CRATES = ["librust-bincode-dev", "librust-data-encoding-dev", "librust-serde-dev", "librust-serde-json-dev"]
+NEEDED_FOR_RELEASE = {"cargo", "mmdebstrap", "pandoc", "rustc", *CRATES}
 CARGO = "/usr/bin/cargo"
 
 
@@ -313,7 +314,7 @@ def put_crate(dist, room):
     tree = unpacked(dist, room)
     run([PYTHON, "-B", "scripts/links.py", "--installed", "bindings/rust"], tree)       # the README describes the crate, alone
     run(["bindings/rust/stage", room / "crate"], tree)
-    run([CARGO, "package", "--quiet", "--offline", "--no-verify"], room / "crate", CARGO_HOME=str(room / "home"), CARGO_TARGET_DIR=str(room / "target"))
+    run([CARGO, "--config", "debian.toml", "package", "--quiet", "--offline", "--no-verify"], room / "crate", CARGO_HOME=str(room / "home"), CARGO_TARGET_DIR=str(room / "target"))
     (crate,) = (room / "target" / "package").glob("*.crate")
     shutil.copyfile(crate, dist / crate.name)
 
@@ -332,7 +333,7 @@ def put_site(dist, room):
 
 # whose versions decide on the bytes of packages
 TOOLS = ["binutils", "debhelper", "dpkg-dev", "gcc", "libc6-dev", "postgresql-server-dev-all", "python3-setuptools"]
-TOOLS_HERE = ["cargo", "libc6-dev-arm64-cross", "musl-tools", "pandoc", "python3-pip", "python3-wheel"]
+TOOLS_HERE = ["cargo", "libc6-dev-arm64-cross", "musl-tools", "pandoc", "python3-pip", "python3-wheel", *CRATES]
 
 
 def put_release(dist):

@@ -39,10 +39,12 @@
 
 #include <algorithm>
 #include <cmath>
+#include <cstddef>
 #include <cstdint>
 #include <cstring>
 #include <initializer_list>
 #include <istream>
+#include <iterator>
 #include <new>
 #include <ostream>
 #include <sstream>
@@ -53,6 +55,15 @@
 #include <vector>
 #if __cplusplus >= 201703L
 #include <string_view>
+#endif
+#if __cplusplus >= 202002L
+#include <version>
+#endif
+#ifdef __cpp_lib_span
+#include <span>
+#endif
+#ifdef __cpp_lib_format
+#include <format>
 #endif
 
 namespace hll {
@@ -217,6 +228,14 @@ inline size_t trailing(const hll_bytes &image)
     check(hll_image_trailing(image.bytes, image.len, &more));
     return more;
 }
+
+/// Returns where the bytes of an image in a container are. A temporary container is rejected, because its bytes end with it.
+template <class Container> hll_bytes image_in(const Container &image)
+{
+    static_assert(sizeof *image.data() == 1, "an image is a container of bytes");
+    return {reinterpret_cast<const uint8_t *>(image.data()), image.size()};
+}
+template <class Container> hll_bytes image_in(const Container &&image) = delete;
 
 /// Throws image_error for the first of n images that is none, or that is followed by bytes, if bytes follow one.
 inline void check_whole(const hll_bytes *images, size_t n)
@@ -446,16 +465,23 @@ inline size_t length_of(const char *text)
     return std::strlen(text);
 }
 
-/// Returns the coupon of values[at]: of a string, or of another container of bytes.
+/// Returns the coupon of values[at]: of a number, a string, or another container of bytes.
+template <class Number>
+typename std::enable_if<std::is_arithmetic<Number>::value, uint32_t>::type coupon_of(Number value, size_t)
+{
+    uint8_t bytes[8];
+    put_little_endian(hashed_as(value), bytes);
+    return hll_coupon(bytes, sizeof bytes);
+}
 inline uint32_t coupon_of(const char *text, size_t at)
 {
     if (text == nullptr)
         throw std::invalid_argument("values[" + std::to_string(at) + "] is a null pointer");
     return hll_coupon(reinterpret_cast<const uint8_t *>(text), std::strlen(text));
 }
-template <class Text> uint32_t coupon_of(const Text &text, size_t)
+template <class Text>
+typename std::enable_if<std::is_class<Text>::value, uint32_t>::type coupon_of(const Text &text, size_t)
 {
-    static_assert(sizeof *text.data() == 1, "values are numbers, strings, or containers of bytes");
     return hll_coupon(reinterpret_cast<const uint8_t *>(text.data()), text.size());
 }
 
@@ -467,6 +493,57 @@ typename std::enable_if<!std::is_arithmetic<Text>::value>::type hash_batch(const
     for (size_t i = 0; i < n; i++)
         coupons[i] = coupon_of(values[first + i], first + i);
 }
+
+/// The type of the values of an iterator.
+#ifdef __cpp_lib_ranges
+template <class Iterator> using value_of = std::iter_value_t<Iterator>;
+#else
+template <class Iterator> using value_of = typename std::iterator_traits<Iterator>::value_type;
+#endif
+
+/// Whether the bytes of a type are those of a value, in a span of them.
+template <class Byte>
+struct is_byte : std::integral_constant<bool, std::is_same<Byte, uint8_t>::value || std::is_same<Byte, char>::value> {
+};
+#if __cplusplus >= 201703L
+template <> struct is_byte<std::byte> : std::true_type {
+};
+#endif
+
+/// Whether update_many adds values of a type: numbers, strings, or other containers of bytes. Characters are one string.
+template <class Value, class = void> struct is_counted : std::is_arithmetic<Value> {
+};
+template <> struct is_counted<char> : std::false_type {
+};
+template <> struct is_counted<const char *> : std::true_type {
+};
+template <> struct is_counted<char *> : std::true_type {
+};
+template <class Text>
+struct is_counted<Text, decltype(static_cast<void>(*std::declval<const Text &>().data()),
+                                 static_cast<void>(std::declval<const Text &>().size()))>
+    : std::integral_constant<bool, sizeof *std::declval<const Text &>().data() == 1> {
+};
+
+/// Says at compile time why values of a type are not counted.
+template <class Value> void explain()
+{
+    static_assert(!std::is_same<Value, char>::value,
+                  "characters are one string, which update adds; numbers of 8 bits are int8_t or uint8_t");
+    static_assert(std::is_same<Value, char>::value || is_counted<Value>::value,
+                  "values are numbers, strings, or containers of bytes; a sketch is merged by update of a union");
+}
+
+/// What update_many was given: a container whose values are contiguous, another range, or neither.
+struct contiguous {};
+struct range {};
+struct no_range {};
+template <class Given>
+auto kind_of(Given &given, int, int)
+    -> decltype(static_cast<void>(*given.data()), static_cast<void>(given.size()), contiguous());
+template <class Given>
+auto kind_of(Given &given, long, int) -> decltype(static_cast<void>(std::begin(given) != std::end(given)), range());
+template <class Given> no_range kind_of(Given &given, long, long);
 
 template <class Value> void hash_all(const Value *values, size_t n, uint32_t *coupons)
 {
@@ -491,8 +568,18 @@ class counter {
     void update(const std::string &value) { update(value.data(), value.size()); }
     void update(char value) { update(&value, 1); }
     void update(const char *value) { update(value, length_of(value)); }
+    void update(std::nullptr_t) = delete; // a null pointer is no value
 #if __cplusplus >= 201703L
     void update(std::string_view value)
+    {
+        update(value.data(), value.size());
+    }
+#endif
+
+#ifdef __cpp_lib_span
+    /// Adds the bytes of a span as one value: a span of std::byte, uint8_t or char.
+    template <class Byte, size_t Extent>
+    typename std::enable_if<is_byte<typename std::remove_cv<Byte>::type>::value>::type update(std::span<Byte, Extent> value)
     {
         update(value.data(), value.size());
     }
@@ -511,40 +598,27 @@ class counter {
     /// one by one.
     template <class Value> void update_many(const Value *values, size_t n)
     {
-        static_assert(!std::is_same<Value, char>::value,
-                      "characters are one string, which update adds; numbers of 8 bits are int8_t or uint8_t");
-        checked_bytes(values, n);
-        uint32_t coupons[batch];
-        if (n > batch && !state_.has_registers()) {
-            if (n <= (size_t(1) << lg_k()) / 4) // their coupons take no more than registers
-                return update_at_once(values, n);
-            const hll_status status = state_.reserve(); // so no batch fails with bad_alloc after others were added
-            if (status != HLL_OK)
-                return checked(status, [=](counter &decided) { decided.update_many(values, n); });
-        }
-        for (size_t done = 0; done < n; done += batch) {
-            const size_t some = std::min(batch, n - done);
-            hash_batch(values, done, some, coupons);
-            add(coupons, some);
-        }
+        add_many(values, n, std::integral_constant<bool, is_counted<Value>::value>());
     }
 
-    /// Adds the values of a contiguous container, such as std::vector or std::array, or of a list in braces. A string is one
-    /// value: update adds it.
-    template <class Container>
-    auto update_many(const Container &values) -> decltype(values.data(), static_cast<void>(values.size()))
+    /// Adds the values of a container or another range, or of a list in braces, all or none. Values that are contiguous, as
+    /// in std::vector, std::array and std::span, are added as above; others in the time of adding them one by one, to a copy
+    /// that then takes the place of the sketch. A string is one value: update adds it.
+    template <class Range> void update_many(Range &&values)
     {
-        update_many(values.data(), values.size());
+        add_range(values, decltype(kind_of(values, 0, 0))());
     }
     template <class Value> void update_many(std::initializer_list<Value> values)
     {
         update_many(values.begin(), values.size());
     }
-    void update_many(const std::string &) = delete; // a string is one value: update(text)
-    void update_many(const char *) = delete;        // a string is one value: update(text)
-#if __cplusplus >= 201703L
-    void update_many(std::string_view) = delete; // a string is one value: update(text)
-#endif
+
+    /// Adds the values from one iterator up to another, all or none, as those of a range.
+    template <class Iterator, class End>
+    typename std::enable_if<!std::is_arithmetic<End>::value>::type update_many(Iterator from, End to)
+    {
+        add_between(from, to, std::integral_constant<bool, is_counted<value_of<Iterator>>::value>());
+    }
 
     /// Adds n raw coupons, as hll_coupon returns them.
     void update_coupons(const uint32_t *coupons, size_t n)
@@ -612,6 +686,62 @@ class counter {
     state state_;
 
   private:
+    template <class Container> void add_range(Container &values, contiguous)
+    {
+        update_many(values.data(), values.size());
+    }
+    template <class Range> void add_range(Range &values, range)
+    {
+        update_many(std::begin(values), std::end(values));
+    }
+    template <class Given> void add_range(Given &, no_range)
+    {
+        static_assert(sizeof(Given) == 0, "update_many adds the values of a range; update adds one value");
+    }
+
+    template <class Value> void add_many(const Value *, size_t, std::false_type)
+    {
+        explain<Value>();
+    }
+    template <class Iterator, class End> void add_between(Iterator, End, std::false_type)
+    {
+        explain<value_of<Iterator>>();
+    }
+
+    template <class Value> void add_many(const Value *values, size_t n, std::true_type)
+    {
+        checked_bytes(values, n);
+        if (std::is_pointer<Value>::value) // to texts, of which one may be null after others
+            return update_many(values, values + n);
+        uint32_t coupons[batch];
+        if (n > batch && !state_.has_registers()) {
+            if (n <= (size_t(1) << lg_k()) / 4) // their coupons take no more than registers
+                return update_at_once(values, n);
+            const hll_status status = state_.reserve(); // so no batch fails with bad_alloc after others were added
+            if (status != HLL_OK)
+                return checked(status, [=](counter &decided) { decided.update_many(values, n); });
+        }
+        for (size_t done = 0; done < n; done += batch) {
+            const size_t some = std::min(batch, n - done);
+            hash_batch(values, done, some, coupons);
+            add(coupons, some);
+        }
+    }
+
+    template <class Iterator, class End> void add_between(Iterator from, End to, std::true_type)
+    {
+        counter copy{state(state_)};
+        uint32_t coupons[batch];
+        for (size_t done = 0, some; from != to; done += some) {
+            for (some = 0; some < batch && from != to; ++some, ++from) {
+                const value_of<Iterator> &value = *from;
+                coupons[some] = coupon_of(value, done + some);
+            }
+            copy.add(coupons, some);
+        }
+        state_.swap(copy.state_);
+    }
+
     void add(const uint32_t *coupons, size_t n)
     {
         const hll_status status = state_.add(coupons, n);
@@ -685,6 +815,14 @@ class sketch : public detail::counter {
     static sketch deserialize(const std::vector<char> &image) { return deserialize(image.data(), image.size()); }
     static sketch deserialize(const std::string &image) { return deserialize(image.data(), image.size()); }
     static sketch deserialize(const char *) = delete; // its length is not known: deserialize(image, size)
+#ifdef __cpp_lib_span
+    template <class Byte, size_t Extent>
+    static typename std::enable_if<detail::is_byte<typename std::remove_cv<Byte>::type>::value, sketch>::type
+    deserialize(std::span<Byte, Extent> image)
+    {
+        return deserialize(image.data(), image.size());
+    }
+#endif
 
     /// Reads the image that comes next in a stream, and leaves the stream after it, so several sketches can follow each
     /// other: `while (in.peek() != EOF) sketches.push_back(hll::sketch::deserialize(in));`.
@@ -797,6 +935,14 @@ class union_ : public detail::counter {
         joined(state_.join(bytes, size), detail::head_of(bytes, size).lg_k, size);
     }
     void update_image(const std::vector<uint8_t> &image) { update_image(image.data(), image.size()); }
+#ifdef __cpp_lib_span
+    template <class Byte, size_t Extent>
+    typename std::enable_if<detail::is_byte<typename std::remove_cv<Byte>::type>::value>::type
+    update_image(std::span<Byte, Extent> image)
+    {
+        update_image(image.data(), image.size());
+    }
+#endif
 
     /// Merges n images, all or none, in less time than one by one. If an image is rejected, the image_error has the
     /// index of the first such image.
@@ -816,12 +962,20 @@ class union_ : public detail::counter {
         detail::check(status);
         update_image(merged.data(), size);
     }
-    void update_images(const std::vector<std::vector<uint8_t>> &images)
+
+    /// Merges the images of a range, all or none: containers or spans of bytes that are in the range. A view that makes them
+    /// doesn't compile.
+    template <class Images>
+    auto update_images(const Images &images) -> decltype(static_cast<void>(detail::image_in(*std::begin(images))))
     {
         std::vector<hll_bytes> parts;
-        for (const std::vector<uint8_t> &image : images)
-            parts.push_back({image.data(), image.size()});
+        for (const auto &image : images)
+            parts.push_back(detail::image_in(image));
         update_images(parts.data(), parts.size());
+    }
+    void update_images(std::initializer_list<std::vector<uint8_t>> images)
+    {
+        update_images<std::initializer_list<std::vector<uint8_t>>>(images);
     }
 
     /// Returns the union as a sketch.
@@ -869,5 +1023,15 @@ inline void swap(union_ &a, union_ &b) noexcept
 }
 
 } // namespace hll
+
+#ifdef __cpp_lib_format
+/// Writes what to_string returns, with the options of a string: std::format("{:>120}", sketch).
+template <> struct std::formatter<hll::sketch> : std::formatter<std::string> {
+    template <class Context> auto format(const hll::sketch &given, Context &context) const
+    {
+        return std::formatter<std::string>::format(given.to_string(), context);
+    }
+};
+#endif
 
 #endif

@@ -28,11 +28,13 @@ package hll
 import "C"
 
 import (
+	"database/sql/driver"
 	"encoding"
 	"encoding/base64"
 	"encoding/binary"
 	"errors"
 	"fmt"
+	"io"
 	"math"
 	"runtime"
 	"unsafe"
@@ -101,6 +103,18 @@ func start(bytes []byte) *C.uint8_t {
 		return nil
 	}
 	return (*C.uint8_t)(unsafe.Pointer(&bytes[0]))
+}
+
+// written returns what a call writes into a buffer. The call is made again if it needs a larger one.
+func written(room int, call func(out *C.uint8_t, room C.size_t, size *C.size_t) C.hll_status) ([]byte, C.hll_status) {
+	for {
+		out, size := make([]byte, room), C.size_t(0)
+		status := call(start(out), C.size_t(room), &size)
+		if status != C.HLL_BUFFER {
+			return out[:size:size], status
+		}
+		room = int(size)
+	}
 }
 
 // batch is the number of values that are added by one call: a call from Go into C takes about as long as adding ten.
@@ -236,6 +250,37 @@ func (s *Sketch) AddFloat(value float64) error {
 	return s.AddUint(math.Float64bits(value))
 }
 
+// AddStrings adds strings by their bytes, all or none.
+func (s *Sketch) AddStrings(values ...string) error {
+	if err := s.settle(); err != nil || len(values) == 0 {
+		return err
+	}
+	var all []byte
+	ends := make([]C.size_t, len(values))
+	for i, value := range values {
+		all = append(all, value...)
+		ends[i] = C.size_t(len(all))
+	}
+	return errorOf(C.hll_counter_add_many(&s.counter.c, start(all), C.size_t(len(all)), &ends[0], C.size_t(len(ends))), 0)
+}
+
+// Coupon returns the coupon of a value, which is all that a sketch of any lg_k takes from it: a number of 32 bits, whose upper 6 bits
+// are 1 to 63.
+func Coupon(value []byte) uint32 { return uint32(C.hll_coupon(start(value), C.size_t(len(value)))) }
+
+// AddCoupons adds values by their coupons, all or none. It returns an error for a number that is no coupon, with its index.
+func (s *Sketch) AddCoupons(coupons []uint32) error {
+	if err := s.settle(); err != nil || len(coupons) == 0 {
+		return err
+	}
+	for i, coupon := range coupons {
+		if coupon>>26 == 0 {
+			return fmt.Errorf("coupons[%d] is %d, whose value is 0; the value of a coupon is 1 to 63", i, coupon)
+		}
+	}
+	return errorOf(C.hll_counter_add_coupons(&s.counter.c, (*C.uint32_t)(unsafe.Pointer(&coupons[0])), C.size_t(len(coupons))), 0)
+}
+
 // add lets a value wait, and adds those that wait before it if no other may wait.
 func add[Bytes []byte | string](s *Sketch, value Bytes) error {
 	if err := s.usable(); err != nil {
@@ -319,21 +364,18 @@ func UnionImages(lgMaxK int, width Width, images [][]byte) ([]byte, error) {
 		all = append(all, image...)
 		ends[i] = C.size_t(len(all))
 	}
-	for room := 1024; ; {
-		union, size, failed := make([]byte, room), C.size_t(0), C.size_t(0)
-		status := C.hll_images_union(C.uint(lgMaxK), C.uint(width), start(all), C.size_t(len(all)), &ends[0], C.size_t(len(images)),
-			start(union), C.size_t(room), &size, &failed)
-		switch {
-		case status == C.HLL_OK:
-			return union[:size:size], nil
-		case status == C.HLL_BUFFER:
-			room = int(size)
-		case C.HLL_TRUNCATED <= status && status <= C.HLL_REGISTER:
-			return nil, fmt.Errorf("images[%d]: %w", failed, errorOf(status, len(images[failed])))
-		default:
-			return nil, errorOf(status, 0)
-		}
+	var failed C.size_t
+	union, status := written(1024, func(out *C.uint8_t, room C.size_t, size *C.size_t) C.hll_status {
+		return C.hll_images_union(C.uint(lgMaxK), C.uint(width), start(all), C.size_t(len(all)), &ends[0], C.size_t(len(images)),
+			out, room, size, &failed)
+	})
+	switch {
+	case status == C.HLL_OK:
+		return union, nil
+	case C.HLL_TRUNCATED <= status && status <= C.HLL_REGISTER:
+		return nil, fmt.Errorf("images[%d]: %w", failed, errorOf(status, len(images[failed])))
 	}
+	return nil, errorOf(status, 0)
 }
 
 // checkWidth returns an error for a width that is not 4, 6 or 8.
@@ -368,14 +410,109 @@ func (s *Sketch) Image(width Width) ([]byte, error) {
 	if err := s.settle(); err != nil {
 		return nil, err
 	}
-	for room := 64 + int(s.summary().size); ; {
-		image, size := make([]byte, room), C.size_t(0)
-		status := C.hll_counter_image(&s.counter.c, C.uint(width), start(image), C.size_t(room), &size)
-		if status != C.HLL_BUFFER {
-			return image[:size:size], errorOf(status, 0)
-		}
-		room = int(size)
+	image, status := written(64+int(s.summary().size), func(out *C.uint8_t, room C.size_t, size *C.size_t) C.hll_status {
+		return C.hll_counter_image(&s.counter.c, C.uint(width), out, room, size)
+	})
+	return image, errorOf(status, 0)
+}
+
+// WriteTo writes the 8-bit image.
+func (s *Sketch) WriteTo(w io.Writer) (int64, error) {
+	image, err := s.Image(Width8)
+	if err != nil {
+		return 0, err
 	}
+	n, err := w.Write(image)
+	return int64(n), err
+}
+
+// Fold returns the sketch of the same values at a smaller lgK, 4 to that of the sketch.
+func (s *Sketch) Fold(lgK int) (*Sketch, error) {
+	image, err := s.Image(Width8)
+	if err == nil {
+		err = checkLgK(lgK)
+	}
+	if err == nil && lgK > s.LgK() {
+		err = fmt.Errorf("lg_k is %d; it must be at most that of the sketch, %d", lgK, s.LgK())
+	}
+	if err != nil {
+		return nil, err
+	}
+	folded, status := written(len(image), func(out *C.uint8_t, room C.size_t, size *C.size_t) C.hll_status {
+		return C.hll_image_fold(start(image), C.size_t(len(image)), C.uint(lgK), out, room, size)
+	})
+	if status != C.HLL_OK {
+		return nil, errorOf(status, 0)
+	}
+	return Read(folded)
+}
+
+// Agrees returns whether both sketches have the same registers, once they are folded to the smaller lg_k.
+func (s *Sketch) Agrees(other *Sketch) (bool, error) {
+	left, err := s.Image(Width8)
+	if err != nil {
+		return false, err
+	}
+	right, err := other.Image(Width8)
+	if err != nil {
+		return false, err
+	}
+	var same C.uint8_t
+	status := C.hll_images_agree(start(left), C.size_t(len(left)), start(right), C.size_t(len(right)), &same, nil)
+	return same != 0, errorOf(status, 0)
+}
+
+// Stage is the form of an image.
+type Stage uint8
+
+// The stages: coupons in a list or in a set, or registers.
+const (
+	StageList      Stage = C.HLL_LIST
+	StageSet       Stage = C.HLL_SET
+	StageRegisters Stage = C.HLL_REGISTERS
+)
+
+// String returns "list", "set" or "registers".
+func (s Stage) String() string {
+	if s > StageRegisters {
+		return fmt.Sprintf("Stage(%d)", uint8(s))
+	}
+	return [...]string{"list", "set", "registers"}[s]
+}
+
+// Info is what an image says about its sketch. Fields that its stage doesn't have are zero.
+type Info struct {
+	LgK     int
+	Width   Width
+	Stage   Stage
+	IsEmpty bool
+	// Coupons is the number of coupons of a list or a set.
+	Coupons uint64
+	// Zeros is the number of registers that are 0.
+	Zeros uint64
+	// OutOfOrder is the flag of registers that were merged.
+	OutOfOrder bool
+	// HasHIP is whether HIPEstimate has a result.
+	HasHIP bool
+	// HIP, KxQ0 and KxQ1 are the estimator fields of registers.
+	HIP, KxQ0, KxQ1 float64
+}
+
+// InfoOf returns what an image says. It returns an *ImageError if the bytes are no image, or more than one.
+func InfoOf(image []byte) (Info, error) {
+	var said C.hll_info
+	err := checkEnd(image)
+	if err == nil {
+		err = errorOf(C.hll_image_info(start(image), C.size_t(len(image)), &said, C.sizeof_hll_info), len(image))
+	}
+	if err != nil {
+		return Info{}, err
+	}
+	return Info{
+		LgK: int(said.lg_k), Width: Width(said.width), Stage: Stage(said.stage), IsEmpty: said.is_empty == 1,
+		Coupons: uint64(said.coupons), Zeros: uint64(said.zeros), OutOfOrder: said.out_of_order == 1, HasHIP: said.has_hip == 1,
+		HIP: math.Float64frombits(uint64(said.hip)), KxQ0: math.Float64frombits(uint64(said.kxq0)), KxQ1: math.Float64frombits(uint64(said.kxq1)),
+	}, nil
 }
 
 // Estimation is an estimate with its bounds.
@@ -398,11 +535,42 @@ func (s *Sketch) Estimate() (Estimation, error) {
 	if err := errorOf(C.hll_counter_estimate(&s.counter.c, &found), 0); err != nil {
 		return Estimation{}, err
 	}
+	return estimationOf(&found), nil
+}
+
+// HIPEstimate returns the HIP estimate that the writer of an image kept in it, with its bounds, and whether it has one: not if it has
+// few values, was merged, or was made by this library. Its standard error is a fifth smaller than that of Estimate. HIPEstimate returns
+// an *ImageError if the bytes are no image, or more than one.
+func HIPEstimate(image []byte) (found Estimation, hasHIP bool, err error) {
+	if err := checkEnd(image); err != nil {
+		return Estimation{}, false, err
+	}
+	var said C.hll_estimation
+	status := C.hll_hip_estimate(start(image), C.size_t(len(image)), &said)
+	if status == C.HLL_ARGUMENT {
+		return Estimation{}, false, nil
+	}
+	return estimationOf(&said), status == C.HLL_OK, errorOf(status, len(image))
+}
+
+// estimationOf returns an estimation of C.
+func estimationOf(found *C.hll_estimation) Estimation {
 	made := Estimation{Estimate: float64(found.estimate), RelativeStandardError: float64(found.relative_standard_error)}
 	for i := range made.Lower {
 		made.Lower[i], made.Upper[i] = float64(found.lower[i]), float64(found.upper[i])
 	}
-	return made, nil
+	return made
+}
+
+// String returns a line with the estimate and its bounds at two standard deviations, or the error of a sketch that holds nothing. Its
+// receiver is no pointer, so fmt prints a struct or a map with a Sketch in it, too.
+func (s Sketch) String() string {
+	found, err := s.Estimate()
+	if err != nil {
+		return err.Error()
+	}
+	return fmt.Sprintf("sketch of lg_k %d: about %.0f distinct values, with 95%% certainty %.0f to %.0f",
+		s.LgK(), found.Estimate, math.Floor(found.Lower[1]), math.Ceil(found.Upper[1]))
 }
 
 // summary returns what the counter says, and zeros if the sketch is closed or the zero Sketch.
@@ -445,6 +613,9 @@ var (
 	_ encoding.BinaryUnmarshaler = (*Sketch)(nil)
 	_ encoding.TextMarshaler     = Sketch{}
 	_ encoding.TextUnmarshaler   = (*Sketch)(nil)
+	_ fmt.Stringer               = Sketch{}
+	_ io.WriterTo                = (*Sketch)(nil)
+	_ driver.Valuer              = Sketch{}
 )
 
 // MarshalBinary returns the 8-bit image, for encoding/gob and the like. Its receiver is no pointer, so a struct or a map with a Sketch
@@ -476,4 +647,27 @@ func (s *Sketch) UnmarshalText(text []byte) error {
 		return err
 	}
 	return s.UnmarshalBinary(image)
+}
+
+// Value returns the 8-bit image, for a column of bytes: database/sql calls it for an argument of a query.
+func (s Sketch) Value() (driver.Value, error) {
+	image, err := s.MarshalBinary()
+	if err != nil {
+		return nil, err
+	}
+	return image, nil
+}
+
+// Scan replaces the sketch by the sketch of a column, for database/sql: an image as bytes, or in base64 as a string. It returns an error
+// for NULL: to read that, scan into the address of a *Sketch, which is nil then.
+func (s *Sketch) Scan(column any) error {
+	switch column := column.(type) {
+	case []byte:
+		return s.UnmarshalBinary(column)
+	case string:
+		return s.UnmarshalText([]byte(column))
+	case nil:
+		return errors.New("hll: the column is NULL: scan into the address of a *hll.Sketch, which is nil then")
+	}
+	return fmt.Errorf("hll: the column is a %T; it must be an image as bytes, or in base64 as a string", column)
 }

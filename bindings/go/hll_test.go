@@ -4,6 +4,8 @@ package hll
 
 import (
 	"bytes"
+	"database/sql"
+	"database/sql/driver"
 	"encoding/base64"
 	"encoding/binary"
 	"encoding/gob"
@@ -11,6 +13,7 @@ import (
 	"encoding/json"
 	"errors"
 	"fmt"
+	"io"
 	"math"
 	"os"
 	"os/exec"
@@ -65,6 +68,8 @@ func takenByEach(t *testing.T, call, given string) (ways []func() (*Sketch, erro
 	case "text", "bytes":
 		way(func(s *Sketch) error { return s.Add(decoded) })
 		way(func(s *Sketch) error { return s.AddString(string(decoded)) })
+		way(func(s *Sketch) error { return s.AddStrings(string(decoded)) })
+		way(func(s *Sketch) error { return s.AddCoupons([]uint32{Coupon(decoded)}) })
 	case "integer":
 		if number, err := strconv.ParseInt(given, 10, 64); err == nil {
 			way(func(s *Sketch) error { return s.AddInt(number) })
@@ -79,6 +84,17 @@ func takenByEach(t *testing.T, call, given string) (ways []func() (*Sketch, erro
 		ways = append(ways, func() (*Sketch, error) { return Read(decoded) })
 		way(func(s *Sketch) error { return s.UnmarshalBinary(decoded) })
 		way(func(s *Sketch) error { return s.UnmarshalText([]byte(base64.StdEncoding.EncodeToString(decoded))) })
+		way(func(s *Sketch) error { return s.Scan(decoded) })
+		way(func(s *Sketch) error { return s.Scan(base64.StdEncoding.EncodeToString(decoded)) })
+		way(func(s *Sketch) error {
+			if _, err := InfoOf(decoded); err != nil {
+				return err
+			}
+			if _, _, err := HIPEstimate(decoded); err != nil {
+				return err
+			}
+			return s.UnmarshalBinary(decoded)
+		})
 		ways = append(ways, func() (*Sketch, error) {
 			lgK := int(headOf(decoded).lg_k)
 			if lgK == 0 {
@@ -143,6 +159,13 @@ func TestBehaviour(t *testing.T) {
 				s, err = New(number)
 			}
 			found[answered(s, err, Width(width), false)] = true
+		case "coupons":
+			var coupons []uint32
+			for _, field := range fields {
+				coupons = append(coupons, uint32(must[uint64](t)(strconv.ParseUint(field, 16, 32))))
+			}
+			s, err := added(func(s *Sketch) error { return s.AddCoupons(coupons) })
+			found[answered(s, err, Width8, false)] = true
 		default:
 			image, _ := hex.DecodeString(given)
 			width := Width8
@@ -333,7 +356,16 @@ func unusable(t *testing.T, wanted error, sketches ...*Sketch) {
 		_, estimateErr := s.Estimate()
 		_, jsonErr := json.Marshal(map[string]*Sketch{"day": s})
 		_, structErr := json.Marshal(struct{ Day Sketch }{*s})
+		_, writeErr := s.WriteTo(io.Discard)
+		_, valueErr := s.Value()
+		_, foldErr := s.Fold(4)
+		_, agreeErr := s.Agrees(other)
+		_, otherErr := other.Agrees(s)
+		if text := fmt.Sprint(s); text != wanted.Error() {
+			t.Error(text)
+		}
 		for i, err := range []error{s.Add(nil), s.AddString("ann"), s.AddInt(1), s.AddUint(1), s.AddFloat(1), s.MergeImage(image), s.Merge(other), s.Merge(s), other.Merge(s),
+			s.AddStrings("ann"), s.AddStrings(), s.AddCoupons([]uint32{1 << 26}), s.AddCoupons(nil), writeErr, valueErr, foldErr, agreeErr, otherErr,
 			imageErr, estimateErr, jsonErr, structErr, gob.NewEncoder(&bytes.Buffer{}).Encode(s)} {
 			if !errors.Is(err, wanted) {
 				t.Error(wanted, i, err)
@@ -360,6 +392,200 @@ func TestLifeClosed(t *testing.T) {
 	closed.Close()
 	union.Close()
 	unusable(t, ErrClosed, closed, &copied, closed.Clone(), union)
+}
+
+func TestStrings(t *testing.T) {
+	var names []string
+	one := must[*Sketch](t)(New(12))
+	for i := 0; i < 5000; i++ {
+		names = append(names, strconv.Itoa(i))
+		if err := one.AddString(names[i]); err != nil {
+			t.Fatal(err)
+		}
+	}
+	many := must[*Sketch](t)(New(12))
+	for _, err := range []error{many.AddString("17"), many.AddStrings(names...), many.AddStrings("ann", ""), many.AddStrings(), one.AddStrings("", "ann")} {
+		if err != nil {
+			t.Fatal(err)
+		}
+	}
+	if !bytes.Equal(imageOf(t, one), imageOf(t, many)) {
+		t.Error("strings at once are others than one by one")
+	}
+}
+
+func TestCoupons(t *testing.T) {
+	s, other := filled(t, 12, 0, 300), must[*Sketch](t)(New(12))
+	var coupons []uint32
+	for i := 0; i < 300; i++ {
+		coupons = append(coupons, Coupon(binary.LittleEndian.AppendUint64(nil, uint64(i))))
+	}
+	if err := other.AddCoupons(coupons); err != nil || !bytes.Equal(imageOf(t, s), imageOf(t, other)) {
+		t.Error(err)
+	}
+	if Coupon([]byte("ann")) != 0x046011f8 {
+		t.Error(Coupon([]byte("ann")))
+	}
+}
+
+func TestFold(t *testing.T) {
+	for _, n := range []int{0, 5, 300, 20_000} {
+		fine, coarse := filled(t, 14, 0, n), filled(t, 10, 0, n)
+		folded := must[*Sketch](t)(fine.Fold(10))
+		if folded.LgK() != 10 || !must[bool](t)(folded.Agrees(coarse)) || !must[bool](t)(fine.Agrees(coarse)) {
+			t.Error(n, folded)
+		}
+		if same := must[*Sketch](t)(fine.Fold(14)); !bytes.Equal(imageOf(t, same), imageOf(t, fine)) {
+			t.Error(n)
+		}
+		if n > 0 && must[bool](t)(fine.Agrees(filled(t, 14, n, 2*n))) {
+			t.Error(n, "others agree")
+		}
+		for lgK, wanted := range map[int]string{3: "lg_k is 3; it must be 4 to 21", 15: "lg_k is 15; it must be at most that of the sketch, 14"} {
+			if _, err := fine.Fold(lgK); err == nil || err.Error() != wanted {
+				t.Error(err)
+			}
+		}
+	}
+}
+
+func TestInfo(t *testing.T) {
+	image := must[[]byte](t)(filled(t, 11, 0, 5).Image(Width6))
+	if found := must[Info](t)(InfoOf(image)); found != (Info{LgK: 11, Width: Width6, Stage: StageList, Coupons: 5}) || fmt.Sprint(found.Stage) != "list" {
+		t.Errorf("%+v", found)
+	}
+	if found := must[Info](t)(InfoOf(imageOf(t, must[*Sketch](t)(New(4))))); !found.IsEmpty || found.LgK != 4 {
+		t.Errorf("%+v", found)
+	}
+	if found := must[Info](t)(InfoOf(imageOf(t, filled(t, 11, 0, 100)))); found.Stage.String() != "set" {
+		t.Errorf("%+v", found)
+	}
+	image = imageOf(t, filled(t, 11, 0, 5000))
+	found := must[Info](t)(InfoOf(image))
+	if fmt.Sprint(found.Stage, Stage(7)) != "registers Stage(7)" || !found.OutOfOrder || found.HasHIP || found.Zeros == 0 || found.HIP != 0 || found.KxQ0 <= 0 || found.KxQ1 < 0 {
+		t.Errorf("%+v", found)
+	}
+	if estimation, hasHIP, err := HIPEstimate(image); hasHIP || err != nil || estimation != (Estimation{}) {
+		t.Error(estimation, hasHIP, err)
+	}
+
+	// as another program writes it that added the values in order
+	image[5] &^= 16
+	binary.LittleEndian.PutUint64(image[8:], math.Float64bits(4321.5))
+	if found := must[Info](t)(InfoOf(image)); found.OutOfOrder || !found.HasHIP || found.HIP != 4321.5 {
+		t.Errorf("%+v", found)
+	}
+	if estimation, hasHIP, err := HIPEstimate(image); !hasHIP || err != nil || estimation.Estimate != 4321.5 || estimation.Lower[0] >= 4321.5 || estimation.Upper[0] <= 4321.5 {
+		t.Error(estimation, hasHIP, err)
+	}
+}
+
+func TestString(t *testing.T) {
+	s := must[*Sketch](t)(New(12))
+	if err := s.AddStrings("ann", "bob"); err != nil {
+		t.Fatal(err)
+	}
+	wanted := "sketch of lg_k 12: about 2 distinct values, with 95% certainty 2 to 3"
+	for _, text := range []string{fmt.Sprint(s), fmt.Sprint(*s), fmt.Sprintf("%v", map[string]Sketch{"day": *s})} {
+		if !strings.Contains(text, wanted) {
+			t.Error(text)
+		}
+	}
+}
+
+func TestWriteTo(t *testing.T) {
+	s := filled(t, 12, 0, 300)
+	var out bytes.Buffer
+	if n, err := s.WriteTo(&out); err != nil || n != int64(out.Len()) || !bytes.Equal(out.Bytes(), imageOf(t, s)) {
+		t.Error(n, err)
+	}
+	reader, writer := io.Pipe()
+	reader.Close()
+	if n, err := s.WriteTo(writer); n != 0 || !errors.Is(err, io.ErrClosedPipe) {
+		t.Error(n, err)
+	}
+}
+
+// column is a driver for database/sql whose database is one value: Exec keeps its argument, and Query returns it.
+type column struct{ kept driver.Value }
+
+func (c *column) Open(string) (driver.Conn, error)          { return c, nil }
+func (c *column) Prepare(string) (driver.Stmt, error)       { return c, nil }
+func (c *column) Begin() (driver.Tx, error)                 { return nil, errors.New("not here") }
+func (c *column) Close() error                              { return nil }
+func (c *column) NumInput() int                             { return -1 }
+func (c *column) Query([]driver.Value) (driver.Rows, error) { return &row{c.kept, false}, nil }
+func (c *column) Exec(v []driver.Value) (driver.Result, error) {
+	c.kept = v[0]
+	return driver.RowsAffected(1), nil
+}
+
+type row struct {
+	kept   driver.Value
+	isRead bool
+}
+
+func (r *row) Columns() []string { return []string{"users"} }
+func (r *row) Close() error      { return nil }
+func (r *row) Next(to []driver.Value) error {
+	if r.isRead {
+		return io.EOF
+	}
+	r.isRead, to[0] = true, r.kept
+	return nil
+}
+
+func TestDatabase(t *testing.T) {
+	kept := &column{}
+	sql.Register("column", kept)
+	db := must[*sql.DB](t)(sql.Open("column", ""))
+	defer db.Close()
+	for _, n := range []int{0, 5, 300, 5000} {
+		s := filled(t, 12, 0, n)
+		for _, argument := range []any{s, *s} {
+			if _, err := db.Exec("INSERT INTO days VALUES ($1)", argument); err != nil {
+				t.Fatal(err)
+			}
+			var read Sketch
+			var pointer *Sketch
+			for _, to := range []any{&read, &pointer} {
+				if err := db.QueryRow("SELECT users FROM days").Scan(to); err != nil {
+					t.Fatal(err)
+				}
+			}
+			if !bytes.Equal(imageOf(t, &read), imageOf(t, s)) || !bytes.Equal(imageOf(t, pointer), imageOf(t, s)) {
+				t.Error(n)
+			}
+		}
+	}
+
+	s := filled(t, 12, 0, 5)
+	before := imageOf(t, s)
+	scanned := func(value driver.Value) error {
+		kept.kept = value
+		return db.QueryRow("SELECT users FROM days").Scan(s)
+	}
+	for wanted, value := range map[string]driver.Value{
+		"(trailing)":                   append(append([]byte(nil), before...), 0),
+		"(truncated)":                  before[:9],
+		"illegal base64 data":          "ann",
+		"the column is NULL: scan int": nil,
+		"the column is a int64":        int64(7),
+	} {
+		if err := scanned(value); err == nil || !strings.Contains(err.Error(), wanted) || !bytes.Equal(imageOf(t, s), before) {
+			t.Error(wanted, err)
+		}
+	}
+	if _, err := db.Exec("INSERT INTO days VALUES ($1)", (*Sketch)(nil)); err != nil || kept.kept != nil {
+		t.Error(err, kept.kept)
+	}
+	pointer := s
+	if err := db.QueryRow("SELECT users FROM days").Scan(&pointer); err != nil || pointer != nil {
+		t.Error(err, pointer)
+	}
+	if err := scanned("AgEHDAMIAgj4EWAEvyBkHA=="); err != nil || fmt.Sprint(s) != "sketch of lg_k 12: about 2 distinct values, with 95% certainty 2 to 3" {
+		t.Error(err, s)
+	}
 }
 
 // Shards in goroutines.

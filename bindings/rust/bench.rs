@@ -1,7 +1,7 @@
 // SPDX-License-Identifier: Apache-2.0
 //! Times sketches and unions at lg_k 12: nanoseconds, the least of 31 turns.
 //!
-//!     cargo run --release --example bench
+//!     cargo --config debian.toml run --release --example bench
 //!
 //! It calls nothing that the original lacks, so the same file times that: build it in a package whose dependency
 //! `hll_sketches` is the original.

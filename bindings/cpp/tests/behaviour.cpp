@@ -75,6 +75,9 @@ static std::string of_image(const std::string &text, bool is_whole)
         return made_by(
             {[&] { return sketch::deserialize(image).serialize(); },
              [&] { return datasketches::hll_sketch::deserialize_exact(text.data(), text.size()).serialize_compact(); },
+#ifdef __cpp_lib_span
+             [&] { return sketch::deserialize(std::span<const uint8_t>(image)).serialize(); },
+#endif
              [&] { return merged(0, head.width, {image}); }, [&] { return merged(head.lg_k, head.width, {image}); }},
             true);
     return made_by({[&] { return sketch::deserialize_first(image.data(), image.size()).serialize(); },

@@ -4,6 +4,7 @@
 #include "test.hpp"
 
 #include <algorithm>
+#include <list>
 #include <sys/mman.h>
 
 using hll::sketch;
@@ -152,6 +153,10 @@ static void test_batches()
     sketch one;
     const auto begin = [&] { one = start; };
     CHECK(refuse_each(begin, [&] { one.update_many(values); }, [&] { return one == start; }) >= 1);
+    CHECK(one == filled(14, eight, -3, 5003));
+    const std::list<int> list(values.begin(), values.end());
+    CHECK(refuse_each(
+              begin, [&] { one.update_many(list); }, [&] { return one == start; }) >= 2);
     CHECK(one == filled(14, eight, -3, 5003));
 }
 

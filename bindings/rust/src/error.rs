@@ -4,12 +4,15 @@
 #![forbid(unsafe_code)]
 
 use std::alloc::{handle_alloc_error, Layout};
-use std::fmt;
+use std::{fmt, io};
 
 use crate::libhll::{self, Status};
 
-/// What kind of error it is.
-#[derive(Debug, Clone, Copy, PartialEq, Eq)]
+/// What the calls of this crate return, unless another error is named.
+pub type Result<T, E = Error> = std::result::Result<T, E>;
+
+/// What kind of error it is. Its text is its name.
+#[derive(Debug, Clone, Copy, PartialEq, Eq, Hash)]
 #[non_exhaustive]
 pub enum ErrorKind {
     /// An argument is out of its range.
@@ -18,6 +21,12 @@ pub enum ErrorKind {
     InvalidData,
     /// An allocation failed. The call can be made again.
     OutOfMemory,
+}
+
+impl fmt::Display for ErrorKind {
+    fn fmt(&self, f: &mut fmt::Formatter<'_>) -> fmt::Result {
+        fmt::Debug::fmt(self, f)
+    }
 }
 
 /// Why a call failed. What the call was to change is as it was before.
@@ -46,9 +55,17 @@ pub(crate) enum Cause {
         most_lg_k: u8,
         most_len: usize,
     },
-    LgK {
+    /// Returns the error for a number that is not what is wanted.
+    Number {
         name: &'static str,
         given: u8,
+        wanted: &'static str,
+    },
+    /// Returns the error for a string that is not what is wanted.
+    Text {
+        name: &'static str,
+        given: String,
+        wanted: &'static str,
     },
     /// Returns the error for an image after images of another `lg_k`.
     OtherLgK {
@@ -82,6 +99,11 @@ impl Error {
         Self { cause }
     }
 
+    /// The error of a string that is not what is wanted.
+    pub(crate) fn of_text(name: &'static str, given: &str, wanted: &'static str) -> Self {
+        Self::new(Cause::Text { name, given: given.into(), wanted })
+    }
+
     /// The error of a call that read an image of this length.
     pub(crate) fn of_image(status: Status, len: usize) -> Self {
         match status {
@@ -111,10 +133,13 @@ impl Error {
     }
 
     /// Returns what kind of error it is.
+    #[must_use]
     pub fn kind(&self) -> ErrorKind {
         match self.cause {
             Cause::Image { .. } | Cause::Trailing { .. } | Cause::Limits { .. } => ErrorKind::InvalidData,
-            Cause::LgK { .. } | Cause::OtherLgK { .. } | Cause::Coupon(_) => ErrorKind::InvalidArgument,
+            Cause::Number { .. } | Cause::Text { .. } | Cause::OtherLgK { .. } | Cause::Coupon(_) => {
+                ErrorKind::InvalidArgument
+            }
             Cause::Memory => ErrorKind::OutOfMemory,
         }
     }
@@ -122,18 +147,20 @@ impl Error {
     /// Returns one word: for a rejected image the first check that it fails (`"truncated"`, `"family"`, .., as in the table
     /// of docs/FORMAT.md, "Reasons"), else `"trailing"`, `"limits"`, `"argument"`,
     /// `"other_lg_k"` or `"memory"`.
+    #[must_use]
     pub fn reason(&self) -> &'static str {
         match self.cause {
             Cause::Image { status, .. } => reason(status).0,
             Cause::Trailing { .. } => "trailing",
             Cause::Limits { .. } => "limits",
-            Cause::LgK { .. } | Cause::Coupon(_) => "argument",
+            Cause::Number { .. } | Cause::Text { .. } | Cause::Coupon(_) => "argument",
             Cause::OtherLgK { .. } => "other_lg_k",
             Cause::Memory => "memory",
         }
     }
 
     /// Returns which of several images was rejected, from 0; `None` if there was only one image, or none.
+    #[must_use]
     pub fn index(&self) -> Option<usize> {
         match self.cause {
             Cause::Image { index, .. } | Cause::Trailing { index, .. } | Cause::OtherLgK { index, .. } => index,
@@ -152,9 +179,9 @@ impl fmt::Display for Error {
         if let Some(number) = self.index() {
             write!(f, "images[{number}]: ")?;
         }
-        match self.cause {
+        match &self.cause {
             Cause::Image { status, len, .. } => {
-                let (word, sentence) = reason(status);
+                let (word, sentence) = reason(*status);
                 write!(f, "these {len} bytes are not the image of a sketch: {sentence} ({word})")
             }
             Cause::Trailing { more, len, .. } => {
@@ -165,7 +192,8 @@ impl fmt::Display for Error {
                 "the image has {len} bytes and lg_k {lg_k}; the limits are {most_len} bytes and lg_k {most_lg_k}: \
                  set higher ones in hll::Limits if you trust the image"
             ),
-            Cause::LgK { name, given } => write!(f, "{name} is {given}; it must be 4 to 21"),
+            Cause::Number { name, given, wanted } => write!(f, "{name} is {given}; it must be {wanted}"),
+            Cause::Text { name, given, wanted } => write!(f, "{name} is {given:?}; it must be {wanted}"),
             Cause::OtherLgK { lg_k, other, .. } => write!(
                 f,
                 "its lg_k is {other}, and that of the images before it {lg_k}: to merge both at the smaller lg_k, give a \
@@ -178,6 +206,17 @@ impl fmt::Display for Error {
 }
 
 impl std::error::Error for Error {}
+
+/// For functions that return an `io::Result`: `InvalidInput`, `InvalidData` or `OutOfMemory`, with this error in the first two.
+impl From<Error> for io::Error {
+    fn from(error: Error) -> Self {
+        match error.kind() {
+            ErrorKind::InvalidArgument => Self::new(io::ErrorKind::InvalidInput, error),
+            ErrorKind::InvalidData => Self::new(io::ErrorKind::InvalidData, error),
+            ErrorKind::OutOfMemory => io::ErrorKind::OutOfMemory.into(), // without an allocation
+        }
+    }
+}
 
 /// Returns the value of a call on memory that a sketch owns. The call fails only if an allocation fails. Then this ends the
 /// program, as a `Vec` does that can't grow.

@@ -106,11 +106,13 @@ pub mod value {
 
         /// Returns the UTF-8 bytes of a string.
         #[allow(clippy::should_implement_trait)] // the name of the original
+        #[must_use]
         pub fn from_str(text: &str) -> RawBytes<'_> {
             RawBytes(text.as_bytes())
         }
 
         /// Returns these bytes.
+        #[must_use]
         pub fn from_slice(bytes: &[u8]) -> RawBytes<'_> {
             RawBytes(bytes)
         }

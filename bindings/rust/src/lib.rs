@@ -12,7 +12,7 @@
 #![deny(unsafe_code)]
 // build.rs sets hll_missing and hll_versioned; older compilers don't know the second lint
 #![allow(unknown_lints, unexpected_cfgs)]
-#![warn(missing_docs)]
+#![warn(missing_docs, clippy::missing_errors_doc, clippy::must_use_candidate)]
 
 pub mod common;
 pub mod error;
@@ -21,12 +21,15 @@ pub mod hll;
 #[allow(unsafe_code)]
 mod libhll;
 
+pub use crate::error::Result;
+
 /// Returns for which processors the code of `libhll` was compiled that runs: `x86-64-v2`, `x86-64-v3`, `aarch64` or `riscv64`. On
 /// Linux on x86-64 the first call chooses, and the environment variable `HLL_CPU=x86-64-v2` keeps the first.
 ///
 /// ```
 /// println!("{}", hll_sketches::processor());
 /// ```
+#[must_use]
 pub fn processor() -> &'static str {
     libhll::processor()
 }

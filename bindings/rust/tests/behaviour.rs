@@ -28,7 +28,7 @@ fn made_by(ways: impl IntoIterator<Item = Result<Vec<u8>, Error>>, is_image: boo
 }
 
 fn type_of(width: u32) -> HllType {
-    [HllType::Hll4, HllType::Hll6, HllType::Hll8][width as usize / 2 - 2]
+    HllType::try_from(u8::try_from(width).unwrap()).unwrap()
 }
 
 fn union(lg_max_k: u8, width: u32, images: &[Vec<u8>]) -> Vec<String> {
@@ -57,7 +57,12 @@ fn answers(call: &str, given: &str) -> Vec<String> {
     match call {
         "text" => {
             let text = String::from_utf8(decoded(given)).unwrap();
-            vec![kept(|sketch| sketch.update(&text)), format!("{:08x}", Coupon::from_value(&text).raw())]
+            vec![
+                kept(|sketch| sketch.update(&text)),
+                kept(|sketch| sketch.update_many([&text])),
+                kept(|sketch| sketch.extend([&text])),
+                format!("{:08x}", Coupon::from_value(&text).raw()),
+            ]
         }
         "bytes" => vec![
             kept(|sketch| sketch.update_bytes(decoded(given))),
@@ -76,7 +81,8 @@ fn answers(call: &str, given: &str) -> Vec<String> {
         "whole" => {
             let image = decoded(given);
             let joined = union_of([&image]).map(|it| it.serialize());
-            made_by([HllSketch::deserialize_exact(&image).map(|it| it.serialize()), joined], true)
+            let read = [HllSketch::deserialize_exact(&image), HllSketch::try_from(&image[..])];
+            made_by(read.map(|it| it.map(|it| it.serialize())).into_iter().chain([joined]), true)
         }
         "first" => {
             let image = decoded(given);

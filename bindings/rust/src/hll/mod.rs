@@ -34,20 +34,25 @@
 
 #![forbid(unsafe_code)]
 
+#[cfg(feature = "serde")]
+mod serial;
 mod sketch;
 mod state;
 mod union;
 
+use std::fmt;
 use std::hash::Hash;
+use std::str::FromStr;
 
 pub use self::sketch::HllSketch;
 pub use self::union::{merge_images, union_of, HllUnion};
 use crate::common::Estimation;
-use crate::error::{or_abort, Cause, Error};
+use crate::error::{or_abort, Cause, Error, Result};
 use crate::libhll;
 
-/// The number of bits of a register in an image. It changes only the size of images.
-#[derive(Debug, Clone, Copy, PartialEq, Eq)]
+/// The number of bits of a register in an image. It changes only the size of images. Its text is `HLL_4`, `HLL_6` or `HLL_8`,
+/// which `parse` reads.
+#[derive(Debug, Clone, Copy, PartialEq, Eq, Hash)]
 pub enum HllType {
     /// 4 bits: about 2^`lg_k` / 2 bytes.
     Hll4,
@@ -67,11 +72,45 @@ impl HllType {
     }
 
     fn of_width(width: u8) -> Self {
-        match width {
-            4 => Self::Hll4,
-            6 => Self::Hll6,
-            _ => Self::Hll8,
+        Self::try_from(width).unwrap_or(Self::Hll8)
+    }
+
+    fn name(self) -> &'static str {
+        match self {
+            Self::Hll4 => "HLL_4",
+            Self::Hll6 => "HLL_6",
+            Self::Hll8 => "HLL_8",
         }
+    }
+}
+
+impl TryFrom<u8> for HllType {
+    type Error = Error;
+
+    /// Returns the type of this number of bits, or `InvalidArgument` for another number than 4, 6 and 8.
+    fn try_from(bits: u8) -> Result<Self> {
+        match bits {
+            4 => Ok(Self::Hll4),
+            6 => Ok(Self::Hll6),
+            8 => Ok(Self::Hll8),
+            given => Err(Error::new(Cause::Number { name: "the number of bits", given, wanted: "4, 6 or 8" })),
+        }
+    }
+}
+
+impl FromStr for HllType {
+    type Err = Error;
+
+    /// Reads `"HLL_4"`, `"HLL_6"` or `"HLL_8"`, or returns `InvalidArgument`.
+    fn from_str(text: &str) -> Result<Self> {
+        let found = [Self::Hll4, Self::Hll6, Self::Hll8].into_iter().find(|it| it.name() == text);
+        found.ok_or_else(|| Error::of_text("the type of registers", text, "HLL_4, HLL_6 or HLL_8"))
+    }
+}
+
+impl fmt::Display for HllType {
+    fn fmt(&self, f: &mut fmt::Formatter<'_>) -> fmt::Result {
+        f.pad(self.name())
     }
 }
 
@@ -99,7 +138,7 @@ impl Coupon {
     ///
     /// `OutOfMemory`, which values that write at most 40 bytes don't cause.
     #[inline]
-    pub fn try_from_value<T: Hash>(value: T) -> Result<Self, Error> {
+    pub fn try_from_value<T: Hash>(value: T) -> Result<Self> {
         crate::hash::with_bytes_of(value, libhll::coupon).map(Self).ok_or_else(|| Error::new(Cause::Memory))
     }
 
@@ -117,6 +156,7 @@ impl Coupon {
 
     /// Returns the coupon with this slot and value. Of the slot the lower 26 bits count. A value of 0 becomes 1, and a value
     /// above 63 becomes 63.
+    #[must_use]
     pub fn pack(slot: u32, value: u8) -> Self {
         Self((u32::from(value.clamp(1, 63)) << SLOT_BITS) | (slot % SLOTS))
     }
@@ -126,7 +166,7 @@ impl Coupon {
     /// # Errors
     ///
     /// `InvalidArgument` if the number is below 2^26, so the coupon's value would be 0.
-    pub fn from_raw(raw: u32) -> Result<Self, Error> {
+    pub fn from_raw(raw: u32) -> Result<Self> {
         if raw < SLOTS {
             return Err(Error::new(Cause::Coupon(raw)));
         }
@@ -134,25 +174,28 @@ impl Coupon {
     }
 
     /// Returns the coupon as a number: its value * 2^26 + its slot.
+    #[must_use]
     pub fn raw(self) -> u32 {
         self.0
     }
 
     /// Returns the slot, below 2^26.
+    #[must_use]
     pub fn slot(self) -> u32 {
         self.0 % SLOTS
     }
 
     /// Returns the value, 1 to 63.
+    #[must_use]
     pub fn value(self) -> u8 {
         (self.0 >> SLOT_BITS) as u8
     }
 }
 
-fn check_lg_k(name: &'static str, given: u8) -> Result<u8, Error> {
+fn check_lg_k(name: &'static str, given: u8) -> Result<u8> {
     match given {
         4..=21 => Ok(given),
-        _ => Err(Error::new(Cause::LgK { name, given })),
+        _ => Err(Error::new(Cause::Number { name, given, wanted: "4 to 21" })),
     }
 }
 
@@ -161,7 +204,7 @@ fn check_lg_k(name: &'static str, given: u8) -> Result<u8, Error> {
 /// # Errors
 ///
 /// `InvalidData` with the first check that the bytes fail, or `OutOfMemory`.
-pub fn check(image: &[u8]) -> Result<(), Error> {
+pub fn check(image: &[u8]) -> Result<()> {
     libhll::image_check(image).map_err(|status| Error::of_image(status, image.len()))
 }
 
@@ -174,7 +217,7 @@ pub fn check(image: &[u8]) -> Result<(), Error> {
 /// # Errors
 ///
 /// `InvalidData` if the bytes are not an image, or `OutOfMemory`.
-pub fn hip_estimate(image: &[u8]) -> Result<Option<Estimation>, Error> {
+pub fn hip_estimate(image: &[u8]) -> Result<Option<Estimation>> {
     match libhll::hip_estimate(image) {
         Ok(found) => Ok(Some(found)),
         Err(libhll::ARGUMENT) => Ok(None),
@@ -217,7 +260,7 @@ impl Limits {
     /// # Errors
     ///
     /// `InvalidData` with the reason `"limits"` if one is above its limit.
-    pub fn check(&self, image: &[u8]) -> Result<(), Error> {
+    pub fn check(&self, image: &[u8]) -> Result<()> {
         let (lg_k, len) = (libhll::head(image).lg_k, image.len());
         if lg_k <= self.lg_k && len <= self.len {
             return Ok(());
