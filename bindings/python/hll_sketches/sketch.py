@@ -22,8 +22,8 @@ Buffer = Union[bytes, bytearray, memoryview, Any]
 """An object that shares its bytes: also an ``array``, an ``mmap``, or a NumPy array."""
 
 PENDING_BYTES, VALUE_BYTES = 1 << 12, 56
-"""A sketch buffers values of this many bytes, or twice the size of its image, before it hashes them; and
-the bytes that a buffered value needs in addition to its own."""
+"""A sketch buffers values of this many bytes before it hashes them; and the bytes that a buffered value needs
+in addition to its own."""
 
 
 def _checked_int(what: str, number: SupportsIndex) -> int:
@@ -148,7 +148,7 @@ class Sketch:
         If ``lg_k`` or ``width`` is out of range.
     """
 
-    __slots__ = ("_image", "_pending", "_pending_bytes", "_lock", "__weakref__")
+    __slots__ = ("_kept", "_width", "_pending", "_pending_bytes", "_lock", "__weakref__")
     __hash__ = None  # type: ignore[assignment]
 
     def __init__(self, lg_k: int = 12, width: int = 8) -> None:
@@ -156,7 +156,8 @@ class Sketch:
 
     def _set(self, image: bytes) -> None:
         """Begins with an image as the library writes it."""
-        self._image = image
+        self._kept: Union[bytes, _library.Counter] = image
+        self._width = 0     # of the images of a counter
         self._pending: List[bytes] = []
         self._pending_bytes = 0
         self._lock = Lock()
@@ -201,9 +202,17 @@ class Sketch:
             If true, these fields are zero, as the program ``hll_merge`` writes them. Other libraries
             then estimate infinity.
         """
-        if self._pending:
+        kept = None if self._pending else self._kept
+        image = kept if isinstance(kept, bytes) else self._settled()
+        return _library.clear_estimator_fields(image) if plain else image
+
+    def _settled(self) -> bytes:
+        """Keeps the sketch as an image, and returns it."""
+        with self._lock:
             self._apply()
-        return _library.clear_estimator_fields(self._image) if plain else self._image
+            if not isinstance(self._kept, bytes):
+                self._kept = _library.image_of_counter(self._kept, self._width)
+            return self._kept
 
     def __bytes__(self) -> bytes:
         return self.to_bytes()
@@ -302,9 +311,8 @@ class Sketch:
     def update(self, value: Value) -> None:
         """Count a value. A value that was counted before changes nothing.
 
-        Values are buffered. They are hashed together when they take four kilobytes and twice the size
-        of the image, or when the sketch is used in another way. So a later call may raise
-        ``MemoryError``.
+        Values are buffered. They are hashed together when they take four kilobytes, or when the sketch
+        is used in another way. So a later call may raise ``MemoryError``.
 
         Parameters
         ----------
@@ -329,7 +337,7 @@ class Sketch:
         data = bytes_of(value)
         self._pending.append(data)
         self._pending_bytes += len(data) + VALUE_BYTES
-        if self._pending_bytes >= PENDING_BYTES and self._pending_bytes >= 2 * len(self._image):
+        if self._pending_bytes >= PENDING_BYTES:
             self._apply()
 
     def update_many(self, values: Iterable[Value], *, skip_missing: bool = False) -> None:
@@ -355,9 +363,8 @@ class Sketch:
         TypeError, OverflowError
             As by ``update``.
         """
-        for batch in batches(values, 8 + (1 << self.lg_k), Missing(skip_missing)):
-            with self._lock:
-                self._image = _library.add(self.to_bytes(), *batch)
+        for batch in batches(values, Missing(skip_missing)):
+            self._add(*batch)
 
     def update_bytes(self, data: Any, ends: Any) -> None:
         """Count concatenated byte strings, such as a column of strings in Arrow.
@@ -375,9 +382,7 @@ class Sketch:
         ArgumentError
             If the ends descend, or an end is past the bytes. Then nothing has changed.
         """
-        batch = batch_of(data, ends)
-        with self._lock:
-            self._image = _library.add(self.to_bytes(), *batch)
+        self._add(*batch_of(data, ends))
 
     def add_coupon(self, slot: int, value: int) -> None:
         """Add a coupon, which is what the hash makes of a value.
@@ -400,7 +405,7 @@ class Sketch:
         if not 1 <= value <= 63:
             raise ArgumentError(f"the value of a coupon is 1 to 63, not {value}")
         with self._lock:
-            self._image = _library.add_coupon(self.to_bytes(), slot, value)
+            _library.add_coupons_to_counter(self._counter(), _library.coupons_of([value << 26 | slot]))
 
     def merge(self, other: "Sketch", lg_max_k: Optional[int] = None) -> None:
         """Merge another sketch into this one, which becomes the union of both.
@@ -430,7 +435,7 @@ class Sketch:
             raise TypeError(f"a Sketch, not {type(other).__name__}")
         image, bound = other.to_bytes(), 0 if lg_max_k is None else checked_lg_k(lg_max_k)
         with self._lock:
-            self._image = self._merged(image, bound)
+            self._kept = self._merged(image, bound)
 
     def _merged(self, image: bytes, lg_max_k: int = 0) -> bytes:
         mine = self.to_bytes()
@@ -459,7 +464,7 @@ class Sketch:
     def reset(self) -> None:
         """Forget all values. The ``lg_k`` and the width stay."""
         with self._lock:
-            self._image = _library.new(self.lg_k, self.width)
+            self._kept = _library.new(self.lg_k, self.width)
             self._pending.clear()
             self._pending_bytes = 0
 
@@ -468,12 +473,23 @@ class Sketch:
         with self._lock:
             count = len(self._pending)
             if count:
-                kept = self._pending[:count]
-                data = b"".join(kept)
-                self._image = _library.add(self._image, data, _library.ends_of(kept), count)
+                _library.add_pieces_to_counter(self._counter(), self._pending[:count])
                 del self._pending[:count]
                 rest = self._pending
                 self._pending_bytes = sum(map(len, rest)) + VALUE_BYTES * len(rest)
+
+    def _add(self, values: bytes, ends: _library.Numbers, count: int) -> None:
+        """Adds values, delimited by their ends."""
+        with self._lock:
+            _library.add_to_counter(self._counter(), values, ends, count)
+
+    def _counter(self) -> _library.Counter:
+        """Keeps the sketch as a counter, which can be changed, and returns it."""
+        kept = self._kept
+        if isinstance(kept, bytes):
+            kept, self._width = _library.counter_of(kept)
+            self._kept = kept
+        return kept
 
     # ---- other sketches of the same values
 
@@ -508,19 +524,21 @@ class Sketch:
         DataSketches library stored a HIP estimate, and was not changed since.
         """
         with self._lock:
-            self._image = _library.set_estimator_fields(self.to_bytes())
+            self._kept = _library.set_estimator_fields(self.to_bytes())
 
     # ---- what it is
 
     @property
     def lg_k(self) -> int:
         """The base-2 logarithm of the number of registers."""
-        return _library.lg_k_in(self._image)
+        kept = self._kept
+        return _library.lg_k_in(kept) if isinstance(kept, bytes) else _library.summary_of(kept).lg_k
 
     @property
     def width(self) -> int:
         """The bits of a register: 4, 6 or 8."""
-        return _library.width_in(self._image)
+        kept = self._kept
+        return _library.width_in(kept) if isinstance(kept, bytes) else self._width
 
     @property
     def stage(self) -> str:
@@ -557,7 +575,15 @@ class Sketch:
         The estimate from registers is proved to be near the exact value of the estimator. The
         estimate from coupons is tested.
         """
-        return _library.estimation(self.to_bytes()).estimate
+        return self._estimation().estimate
+
+    def _estimation(self) -> _library.Estimation:
+        kept = None if self._pending else self._kept
+        if isinstance(kept, bytes):
+            return _library.estimation(kept)
+        with self._lock:
+            self._apply()
+            return _library.estimation_of_counter(self._counter())
 
     def hip_estimate(self) -> Optional[float]:
         """Return the HIP estimate that another program stored with the registers, or None.
@@ -583,7 +609,7 @@ class Sketch:
             If ``deviations`` is another number.
         """
         number = checked_deviations(deviations) - 1
-        found = _library.estimation(self.to_bytes())
+        found = self._estimation()
         return found.lower[number], found.upper[number]
 
     def lower_bound(self, deviations: int = 2) -> float:
@@ -596,7 +622,7 @@ class Sketch:
 
     def relative_standard_error(self) -> float:
         """Return the standard deviation of the estimate, as a fraction of the number of values."""
-        return _library.estimation(self.to_bytes()).relative_standard_error
+        return self._estimation().relative_standard_error
 
     # ---- comparing
 

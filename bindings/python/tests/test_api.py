@@ -257,7 +257,6 @@ class SketchTest(unittest.TestCase):
             calls = (
                 lambda: _library.new(number, 8),
                 lambda: _library.new(12, number),
-                lambda: _library.add_coupon(image, 5, number),
                 lambda: _library.merge(12, number, image, image),
                 lambda: _library.union(12, number, [image]),
                 lambda: _library.convert(image, number),
@@ -291,8 +290,7 @@ class SketchTest(unittest.TestCase):
         sketch, many = Sketch(), Sketch()
         for value in range(10000):
             sketch.update(value)
-            room = max(4096, 2 * len(sketch._image))
-            self.assertLess(sum(map(sys.getsizeof, sketch._pending)), room)
+            self.assertLess(sum(map(sys.getsizeof, sketch._pending)), 4096)
         many.update_many(range(10000))
         self.assertEqual(sketch, many)
         large = Sketch()
@@ -683,10 +681,10 @@ class ErrorsTest(unittest.TestCase):
         self.assertEqual((done.stdout, done.returncode), ("refused\n1\n", 0), done.stderr)
 
     def test_refused_memory_loses_nothing(self):
-        sketch, union = Sketch(), SketchUnion()
+        sketch, union, refuse = Sketch(), SketchUnion(), mock.Mock(side_effect=MemoryError)
         sketch.update("x")
         union.update(sketch)
-        with mock.patch.object(_library, "add", side_effect=MemoryError):
+        with mock.patch.multiple(_library, add_pieces_to_counter=refuse, add_to_counter=refuse):
             for call in (sketch.to_bytes, sketch.estimate, lambda: sketch.update_many(["y"])):
                 sketch.update("z")
                 with self.assertRaises(MemoryError):

@@ -155,13 +155,12 @@ class MemoryTest(ColumnTest):
         """No value becomes an object: a call for each batch, and none for a value."""
         calls, values = [], array("q", range(200_000))
 
-        def add(image, data, ends, count):
+        def add(counter, data, ends, count):
             calls.append(count)
-            return image
 
         with mock.patch.object(_values, "bytes_of", side_effect=AssertionError), \
                 mock.patch.object(_values, "joined", side_effect=AssertionError), \
-                mock.patch.object(_library, "add", side_effect=add):
+                mock.patch.object(_library, "add_to_counter", side_effect=add):
             Sketch().update_many(values)
         self.assertEqual(sum(calls), len(values))
         self.assertLess(len(calls), 8)

@@ -244,12 +244,12 @@ OTHER = r"""
 #include <stddef.h>
 typedef unsigned char u8;
 #define EMPTY(name) int name(void) { return 0; }
-EMPTY(hll_image_new) EMPTY(hll_image_add) EMPTY(hll_image_add_coupon) EMPTY(hll_image_merge)
+EMPTY(hll_image_new) EMPTY(hll_image_merge)
 EMPTY(hll_images_union) EMPTY(hll_image_fold) EMPTY(hll_image_convert) EMPTY(hll_image_check)
 EMPTY(hll_image_size) EMPTY(hll_image_trailing) EMPTY(hll_image_set_estimator_fields) EMPTY(hll_image_clear_estimator_fields) EMPTY(hll_images_agree) EMPTY(hll_coupon) EMPTY(hll_coupons)
 EMPTY(hll_estimate) EMPTY(hll_hip_estimate)
 EMPTY(hll_counter_free) EMPTY(hll_counter_add) EMPTY(hll_counter_settle) EMPTY(hll_counter_shrink) EMPTY(hll_counter_copy) EMPTY(hll_counter_join) EMPTY(hll_counter_info)
-EMPTY(hll_counter_image) EMPTY(hll_counter_estimate)
+EMPTY(hll_counter_add_many) EMPTY(hll_counter_add_coupons) EMPTY(hll_counter_image) EMPTY(hll_counter_estimate)
 EMPTY(hll_registers_add) EMPTY(hll_registers_add_coupons)
 EMPTY(hll_registers_merge) EMPTY(hll_registers_merge_registers) EMPTY(hll_registers_fold)
 EMPTY(hll_registers_histogram) EMPTY(hll_registers_image) EMPTY(hll_registers_estimate)
