@@ -2,10 +2,13 @@
 """Sketches of distinct values."""
 from __future__ import annotations
 
+import ctypes
 import os
+from array import array
 from base64 import b64decode, b64encode
+from mmap import mmap
 from operator import index
-from typing import Any, Iterable, List, Optional, SupportsIndex, Tuple, Type, TypeVar, Union
+from typing import IO, Any, Iterable, List, Optional, Protocol, SupportsIndex, Tuple, Type, TypeVar, Union, cast
 
 from . import _library
 from ._columns import batch_of
@@ -14,12 +17,20 @@ from ._locks import Lock
 from ._missing import Missing
 from ._state import united
 from ._values import Value, batches, bytes_of
-from .layout import STAGES
+from .layout import STAGES, Stage
 
 _S = TypeVar("_S", bound="Sketch")
 
-Buffer = Union[bytes, bytearray, memoryview, Any]
-"""An object that shares its bytes: also an ``array``, an ``mmap``, or a NumPy array."""
+
+class _Array(Protocol):
+    """An array of NumPy."""
+
+    def __array__(self, *arguments: Any, **more: Any) -> Any:
+        """Return the array."""
+
+
+Buffer = Union[bytes, bytearray, memoryview, "array[Any]", "ctypes.Array[Any]", mmap, _Array]
+"""An object that shares its bytes, as a NumPy array does."""
 
 PENDING_BYTES, VALUE_BYTES = 1 << 12, 56
 """A sketch buffers values of this many bytes before it hashes them; and the bytes that a buffered value needs
@@ -60,7 +71,7 @@ def checked_width(width: int) -> int:
 def _view_of(source: Buffer) -> memoryview:
     """Returns a view of bytes, without a copy."""
     try:
-        return memoryview(source)
+        return memoryview(cast(bytes, source))
     except TypeError:
         cure = ": Sketch.read reads a file" if isinstance(source, (str, os.PathLike)) else ""
         name = type(source).__name__
@@ -249,11 +260,16 @@ class Sketch:
         return self.to_base64()
 
     @classmethod
-    def read(cls: Type[_S], path: Union[str, "os.PathLike[str]"]) -> _S:
+    def read(cls: Type[_S], path: Union[str, "os.PathLike[str]", IO[bytes]]) -> _S:
         """Read the file of a sketch.
 
         The first bytes of the file say how long the image is. Only one more byte is read, to see whether
         the file ends there.
+
+        Parameters
+        ----------
+        path : str, path or file
+            The file, or a file of bytes that is open to read, whose image begins at its position.
 
         Raises
         ------
@@ -262,15 +278,17 @@ class Sketch:
         ImageError
             If the file is not an image; ``place`` is its path.
         """
-        from .files import read_path
+        from .files import opened_bytes, read_image, read_path
 
-        name = os.fspath(path)
+        file = opened_bytes(path, "read")
+        name: Any = getattr(file, "name", None) if file is not None else os.fspath(cast("os.PathLike[str]", path))
+        data = read_image(file.read) if file is not None else read_path(name)
         try:
-            return cls.from_bytes(read_path(name))
+            return cls.from_bytes(data)
         except ImageError as error:
-            raise error.at(None, os.fsdecode(name)) from None
+            raise error.at(None, os.fsdecode(name) if isinstance(name, (str, bytes)) else None) from None
 
-    def write(self, path: Union[str, "os.PathLike[str]"], *, sync: bool = True) -> None:
+    def write(self, path: Union[str, "os.PathLike[str]", IO[bytes]], *, sync: bool = True) -> None:
         """Write the image to a file, and sync the file to disk.
 
         The file has the bytes of ``to_bytes``. At each moment it is either the old file or the
@@ -278,8 +296,9 @@ class Sketch:
 
         Parameters
         ----------
-        path : str or path
-            The file.
+        path : str, path or file
+            The file, or a file of bytes that is open to write. An open file gets the bytes at its
+            position, and is not synced.
         sync : bool
             Whether to wait until the file and its name are on disk. A disk takes up to 10 ms for this,
             and the rest of the call takes 0.1 ms. If false, the file can be empty or incomplete after a
@@ -291,9 +310,13 @@ class Sketch:
             If the file can't be written. Then the old file is unchanged, with one exception: if only
             the last sync fails, the new file is complete, but its name may not be on disk yet.
         """
-        from .files import write_path
+        from .files import opened_bytes, write_all, write_path
 
-        write_path(os.fspath(path), self.to_bytes(), sync)
+        file = opened_bytes(path, "write")
+        if file is not None:
+            write_all(file, self.to_bytes())
+        else:
+            write_path(os.fspath(cast("os.PathLike[str]", path)), self.to_bytes(), sync)
 
     @staticmethod
     def max_bytes(lg_k: int = 12, width: int = 8) -> int:
@@ -541,7 +564,7 @@ class Sketch:
         return _library.width_in(kept) if isinstance(kept, bytes) else self._width
 
     @property
-    def stage(self) -> str:
+    def stage(self) -> Stage:
         """``"list"``, ``"set"`` or ``"registers"``."""
         return STAGES[_library.head(self.to_bytes()).stage]
 
@@ -646,6 +669,10 @@ class Sketch:
             content = f"{found.coupons} coupons"
         name = type(self).__name__
         return f"<{name} lg_k={found.lg_k} width={found.width}: {STAGES[found.stage]}, {content}>"
+
+    def __format__(self, spec: str) -> str:
+        """Return the estimate in a format of numbers, as in ``f"{sketch:,.0f}"``; without one, what ``str`` returns."""
+        return format(self.estimate(), spec) if spec else str(self)
 
     # ---- copies
 

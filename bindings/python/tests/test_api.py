@@ -3,6 +3,8 @@
 import copy
 import ctypes
 import datetime
+import gzip
+import io
 import json
 import math
 import mmap
@@ -13,6 +15,7 @@ import re
 import struct
 import subprocess
 import sys
+import tempfile
 import threading
 import unittest
 import uuid
@@ -447,6 +450,51 @@ class SketchTest(unittest.TestCase):
         self.assertIs(type(mine.fold(8)), Mine)
         self.assertIs(type(Mine.from_bytes(ONE)), Mine)
 
+    def test_open_files(self):
+        """A file that is open for bytes is read from its position, and written at it."""
+        made = self.filled()
+        with tempfile.TemporaryDirectory() as folder:
+            path = os.path.join(folder, "sketch.gz")
+            with gzip.open(path, "wb") as file:
+                made.write(file)
+            with gzip.open(path, "rb") as file:
+                self.assertEqual(Sketch.read(file), made)
+            with open(path, "wb", buffering=0) as file:
+                file.write(b"before")
+                made.write(file)
+            with open(path, "rb") as file:
+                self.assertEqual((file.read(6), Sketch.read(file)), (b"before", made))
+            with open(path, "rb") as file, self.assertRaises(ImageError) as caught:
+                Sketch.read(file)
+            self.assertEqual((caught.exception.reason, caught.exception.place), ("family", path))
+        for data, reason in ((b"", "truncated"), (made.to_bytes() * 2, "trailing")):
+            with self.assertRaises(ImageError) as caught:
+                Sketch.read(io.BytesIO(data))
+            self.assertEqual((caught.exception.reason, caught.exception.place), (reason, None))
+        for call, mode in ((Sketch.read, "rb"), (made.write, "wb")):
+            with self.assertRaisesRegex(TypeError, f"a file of bytes, not of text: open it with the mode '{mode}'"):
+                call(io.StringIO())
+
+    def test_a_file_that_takes_a_part(self):
+        """A file may write a part of what it is given, and the rest is written, too."""
+        class Slow(io.RawIOBase):
+            taken = b""
+
+            def write(self, data):
+                self.taken += bytes(data[:1000])
+                return min(len(data), 1000)
+
+        made, file = self.filled(), Slow()
+        made.write(file)
+        self.assertEqual(file.taken, made.to_bytes())
+
+    def test_format(self):
+        made = Sketch()
+        made.update_many(range(5000))
+        self.assertEqual(f"{made:.0f} {made:,.1f} {made:10.2e}", "{0:.0f} {0:,.1f} {0:10.2e}".format(made.estimate()))
+        self.assertEqual((f"{made}", f"{made!r:.7}"), (repr(made), "<Sketch"))
+        self.assertRaises(ValueError, format, made, "x!")
+
     def test_repr(self):
         self.assertEqual(repr(Sketch(10)), "<Sketch lg_k=10 width=8: list, 0 coupons>")
         about = r"^<Sketch lg_k=12 width=8: registers, about (19|20),\d\d\d values>$"
@@ -702,6 +750,7 @@ class ErrorsTest(unittest.TestCase):
     def test_no_library(self):
         code = """
 import sys
+import tempfile
 sys.path.insert(0, sys.argv[1])
 from hll_sketches import Sketch, coupon
 for call in (Sketch, lambda: coupon("ann"), Sketch):

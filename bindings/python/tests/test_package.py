@@ -51,7 +51,9 @@ class TypesTest(CommandTest):
     def test_a_program(self):
         """What a program that uses the package is told."""
         self.write("right.py", b"""\
+import io
 import pathlib
+from array import array
 from hll_sketches import Registers, Sketch, SketchUnion, coupons, merge_files, union_of
 made: Sketch = union_of([Sketch(), b""], 12, 8) | Sketch.read("x")
 made.update_many(open("x"))
@@ -65,13 +67,20 @@ kept: Registers = Registers.over(bytearray(4096)).fold(10)
 kept.merge(made)
 kept.add_coupons(coupons(["x"]))
 made = kept.to_sketch()
+with open("x", "rb") as source:
+    made = union_of([Sketch.read(source), b"", bytearray(), memoryview(b""), array("B")])
+made.write(io.BytesIO())
+are_registers: bool = made.stage == "registers"
 """)
-        wrong = "from hll_sketches import Sketch\nSketch('12')\nSketch().update(None)\n"
+        wrong = (
+            "from hll_sketches import Sketch, union_of\nSketch('12')\nSketch().update(None)\n"
+            "union_of([1])\nunion_of(['a.hll'])\nSketch().stage == 'register'\n"
+        )
         self.write("wrong.py", wrong.encode())
         status, out = self.checked("--strict", str(self.folder / "right.py"))
         self.assertEqual(status, 0, out)
         status, out = self.checked("--strict", str(self.folder / "wrong.py"))
-        self.assertEqual((status, len(re.findall("error:", out))), (1, 2), out)
+        self.assertEqual((status, len(re.findall("error:", out))), (1, 5), out)
 
 
 class BuildTest(CommandTest):
