@@ -53,14 +53,12 @@ def call_alone(images):
 
 
 def add_alone(lg_k, values):
-    """The call of the library for all values of eight bytes at once, into an empty image."""
-    image, data, ends = Sketch(lg_k).to_bytes(), values.tobytes(), _library.ends_of_width(8, len(values))
-    out, size = bytearray(64 + (5 << lg_k)), _library.c_size_t()
-    room, add = _library.byref(_library.c_uint8.from_buffer(out)), _library._library.hll_image_add
+    """The call of the library for all values of eight bytes at once, on a new counter."""
+    data, ends, add = values.tobytes(), _library.ends_of_width(8, len(values)), _library._library.hll_counter_add_many
 
     def call():
-        rest = ends.buffer_info()[0], len(values), room, len(out), _library.byref(size)
-        if add(image, len(image), data, len(data), *rest) != _library.OK:
+        counter = _library.new_counter(lg_k)
+        if add(_library.byref(counter), data, len(data), ends.buffer_info()[0], len(values)) != _library.OK:
             raise RuntimeError("the call of the library failed")
 
     return call

@@ -16,6 +16,7 @@ import threading
 from array import array
 from ctypes import POINTER, byref, c_char_p, c_double, c_size_t, c_void_p
 from ctypes import c_uint, c_uint8, c_uint32, c_uint64
+from functools import lru_cache
 from itertools import accumulate
 from operator import index
 from typing import TYPE_CHECKING, Any, Callable, Dict, Iterable, List, Optional, Sequence, SupportsIndex
@@ -190,6 +191,8 @@ _CALLS: Dict[str, Tuple[object, Sequence[object]]] = {
     "hll_counter_init": (c_uint8, [c_void_p, c_uint, c_void_p, c_void_p]),
     "hll_counter_free": (None, [c_void_p]),
     "hll_counter_add": (c_uint8, [c_void_p, c_char_p, c_size_t]),
+    "hll_counter_add_many": (c_uint8, [c_void_p, c_char_p, c_size_t, c_void_p, c_size_t]),
+    "hll_counter_add_coupons": (c_uint8, [c_void_p, c_void_p, c_size_t]),
     "hll_counter_join": (c_uint8, [c_void_p, c_char_p, c_size_t]),
     "hll_counter_copy": (c_uint8, [c_void_p, c_void_p]),
     "hll_counter_settle": (c_uint8, [c_void_p]),
@@ -203,14 +206,6 @@ _CALLS: Dict[str, Tuple[object, Sequence[object]]] = {
     "hll_image_trailing": (c_uint8, [c_char_p, c_size_t, c_void_p]),
     "hll_image_histogram": (c_uint8, [c_char_p, c_size_t, POINTER(Histogram)]),
     "hll_image_new": (c_uint8, [c_uint, c_uint, c_void_p, c_size_t, c_void_p]),
-    "hll_image_add": (
-        c_uint8,
-        [c_char_p, c_size_t, c_char_p, c_size_t, c_void_p, c_size_t, c_void_p, c_size_t, c_void_p],
-    ),
-    "hll_image_add_coupon": (
-        c_uint8,
-        [c_char_p, c_size_t, c_uint32, c_uint, c_void_p, c_size_t, c_void_p],
-    ),
     "hll_image_merge": (
         c_uint8,
         [c_uint, c_uint, c_char_p, c_size_t, c_char_p, c_size_t, c_void_p, c_size_t, c_void_p, c_void_p],
@@ -504,8 +499,9 @@ def processor() -> str:
     return cast("bytes", _library.hll_processor()).decode()
 
 
+@lru_cache(None)
 def new(lg_k: int, width: int) -> bytes:
-    """Returns the image of an empty sketch."""
+    """Returns the image of an empty sketch, which new sketches share."""
     return _written(_library.hll_image_new, 64, lg_k, width)
 
 
@@ -579,22 +575,6 @@ def hip_estimation(image: bytes) -> Optional[Estimation]:
     return found if status == OK else None
 
 
-def add(image: bytes, values: bytes, ends: Numbers, count: int) -> bytes:
-    """Returns the image with ``count`` more values, delimited by their ends."""
-    given = image, len(image), values, len(values), address_of(ends), count
-    try:
-        return _written(_library.hll_image_add, room_for(lg_k_in(image)), *given)
-    except ArgumentError:
-        raise ArgumentError(_WRONG_ENDS) from None
-
-
-def add_coupon(image: bytes, slot: int, value: int) -> bytes:
-    """Returns the image with one more coupon."""
-    return _written(
-        _library.hll_image_add_coupon, room_for(lg_k_in(image)), image, len(image), slot, value
-    )
-
-
 def merge(lg_max_k: int, width: int, left: bytes, right: bytes) -> bytes:
     """Returns the image of the union of two images. An ``ImageError`` has the number of the image."""
     both = left, len(left), right, len(right)
@@ -652,15 +632,19 @@ def coupon(value: bytes) -> int:
     return _library.hll_coupon(value, len(value))
 
 
+def coupons_of(numbers: Iterable[int]) -> Numbers:
+    """Returns raw coupons as the library reads them."""
+    return array(_COUPON, numbers)
+
+
 def coupons(values: bytes, ends: Numbers, count: int) -> Numbers:
     """Returns the raw coupons of ``count`` values, delimited by their ends."""
     made = array(_COUPON, bytes(4 * count))
     if made:
-        ensure(
-            _library.hll_coupons(
-                values, len(values), address_of(ends), count, made.buffer_info()[0], count
-            )
-        )
+        place = made.buffer_info()[0]
+        status = _library.hll_coupons(values, len(values), address_of(ends), count, place, count)
+        if status != OK:
+            raise ArgumentError(_WRONG_ENDS)
     return made
 
 
@@ -754,6 +738,12 @@ def image_of(registers: Memory, width: int) -> bytes:
 
 # ---- counters
 
+VALUES_AT_ONCE, COUPONS_AT_ONCE = 1 << 13, 1 << 16
+"""The most values with their bytes, and the most coupons, that are added to a counter by one call: other threads wait for it."""
+
+FEW_VALUES = 2
+"""The most values that are added to a counter one by one."""
+
 ALLOCATOR: Optional[Callable[..., Optional[int]]] = None
 """The function that allocates the memory of counters, of the type ``hll_allocator``; None is ``malloc``."""
 
@@ -763,6 +753,44 @@ def new_counter(lg_k: int) -> Counter:
     made = Counter()
     ensure(_library.hll_counter_init(byref(made), lg_k, ALLOCATOR, None))
     return made
+
+
+def counter_of(image: bytes) -> Tuple[Counter, int]:
+    """Returns a counter of the sketch of an image as the library writes it, with its estimator fields, and its width."""
+    said = head(image)
+    made = new_counter(said.lg_k)
+    if image != new(said.lg_k, said.width):     # an empty counter takes no memory but its own
+        join_counter(made, image)
+    return made, said.width
+
+
+def add_to_counter(counter: Counter, values: bytes, ends: Numbers, count: int) -> None:
+    """Adds ``count`` values, delimited by their ends, to a counter. Many are hashed before it changes, while other threads run."""
+    if len(values) + count > VALUES_AT_ONCE:
+        add_coupons_to_counter(counter, coupons(values, ends, count))
+        return
+    status = _library.hll_counter_add_many(byref(counter), values, len(values), address_of(ends), count)
+    if status == ARGUMENT:
+        raise ArgumentError(_WRONG_ENDS)
+    ensure(status)
+
+
+def add_pieces_to_counter(counter: Counter, values: Sequence[bytes]) -> None:
+    """Adds values to a counter: a few by a call for each, which is quicker than to concatenate them."""
+    if len(values) > FEW_VALUES:
+        add_to_counter(counter, b"".join(values), ends_of(values), len(values))
+        return
+    add, place = _library.hll_counter_add, byref(counter)
+    for value in values:
+        ensure(add(place, value, len(value)))
+
+
+def add_coupons_to_counter(counter: Counter, raw_coupons: Numbers) -> None:
+    """Adds raw coupons to a counter."""
+    place, count = address_of(raw_coupons), len(raw_coupons)
+    for at in range(0, count, COUPONS_AT_ONCE):
+        some = min(COUPONS_AT_ONCE, count - at)
+        ensure(_library.hll_counter_add_coupons(byref(counter), place + 4 * at, some))
 
 
 def copy_counter(to: Counter, counter: Counter) -> None:

@@ -3,7 +3,7 @@
 
 A child has only the thread that forked, so a lock that another thread held would stay locked
 forever. The locks may be free in the child because what they protect is consistent at each moment:
-a single assignment replaces an old image by a new one.
+a single assignment replaces an old image by a new one, and no thread forks during a call on a counter.
 """
 from __future__ import annotations
 

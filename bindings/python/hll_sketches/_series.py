@@ -10,6 +10,10 @@ import sys
 from typing import Any, List, Optional
 
 
+_OF_TIMES = "pass values.dropna().to_numpy('datetime64[us]').astype('int64'), as which SQL counts it"
+"""What to pass for a column of times: microseconds since 1970."""
+
+
 def is_of_pandas(values: Any) -> bool:
     """Returns whether values are a column of pandas, or of a library with the same interface."""
     return "numpy" in sys.modules and hasattr(values, "dtype") and hasattr(values, "to_numpy")
@@ -58,6 +62,8 @@ def place_in(column: Any, number: int) -> Optional[str]:
 def named(error: Exception, column: Any) -> Exception:
     """Returns an error about the values of a Series, with its name, which is the key of a group in ``apply``,
     and with the label of the row if the error has a position. Other errors stay as they are."""
+    if isinstance(error, TypeError) and getattr(column.dtype, "kind", "") == "M":
+        error = TypeError(f"a column of {column.dtype} can't be counted: {_OF_TIMES}")
     number = getattr(error, "number", None)
     place = place_in(column, number or 0) if hasattr(column, "index") and len(column) else None
     if place is None or column.name is None and number is None:

@@ -164,36 +164,31 @@ def _refuse_one(values: object) -> None:
         raise TypeError(f"expected many values, not one {name}: {cure}")
 
 
-def _batches_of(column: Column, size: int, missing: Optional[Missing]) -> Iterator[Batch]:
-    """Yields the values of a column in batches of at most half of `ENOUGH` bytes. If the image is large,
-    batches are larger, as the image is read and written for each."""
-    most = max(1, min(max(ENOUGH // 2, size), 4 * ENOUGH) // column.width)
+def _batches_of(column: Column, missing: Optional[Missing]) -> Iterator[Batch]:
+    """Yields the values of a column in batches of at most half of `ENOUGH` bytes."""
+    most = max(1, ENOUGH // 2 // column.width)
     for start in range(0, column.length, most):
         yield column.batch(start, min(start + most, column.length), missing)
 
 
-def batches(
-    values: Iterable[Value], size: int = 0, missing: Optional[Missing] = None
-) -> Iterator[Batch]:
-    """Yields the bytes of the values and their ends, in batches of about `ENOUGH` bytes.
-
-    An image of `size` bytes is read and written for each batch. Errors name the row of a column of pandas.
-    """
+def batches(values: Iterable[Value], missing: Optional[Missing] = None) -> Iterator[Batch]:
+    """Yields the bytes of the values and their ends, in batches of about `ENOUGH` bytes. Errors name the row
+    of a column of pandas."""
     _refuse_one(values)
     if not is_of_pandas(values):
-        yield from _batches(values, size, missing)
+        yield from _batches(values, missing)
         return
     try:
-        yield from _batches(values_of(values), size, missing)
+        yield from _batches(values_of(values), missing)
     except (ArgumentError, TypeError, OverflowError) as error:
         raise named(error, values) from None
 
 
-def _batches(values: Iterable[Value], size: int, missing: Optional[Missing]) -> Iterator[Batch]:
+def _batches(values: Iterable[Value], missing: Optional[Missing]) -> Iterator[Batch]:
     """Yields what ``batches`` yields."""
     column = column_of(values)
     if column is not None:
-        yield from _batches_of(column, size, missing)
+        yield from _batches_of(column, missing)
         return
     if isinstance(values, memoryview):
         raise TypeError(f"expected many values, not a memoryview of the format {values.format!r}")

@@ -8,7 +8,6 @@ from itertools import chain
 from typing import TYPE_CHECKING, Any, Callable, DefaultDict, Dict, Iterator, List, Optional, Sequence, Tuple, Union
 
 from . import _library, _splitter
-from ._columns import Batch
 from ._splitter import Key, Rows, Splitter
 from ._values import bytes_of_int, joined
 from .files import UNUSABLE, Trouble
@@ -22,19 +21,10 @@ if TYPE_CHECKING:
 
     from .database import Row, Settings
 
-KEY_BYTES = 230
-"""The memory that a key needs in addition to its own bytes and those of its image."""
-
-VALUE_BYTES, MOST_WAITING = 64, 1 << 25
-"""The memory that a value needs in addition to its own bytes, and the most bytes of values that wait."""
-
+KEY_BYTES = 520
+"""The memory that a key needs in Python in addition to its own bytes and to what its counter allocates."""
 
 Sink = Union[Splitter, Rows]
-
-
-def _joined(values: List[Any], are_ints: bool) -> Batch:
-    """Returns the concatenated bytes of values, with their ends."""
-    return joined(values) if are_ints else (b"".join(values), _library.ends_of(values), len(values))
 
 
 def image_of(reader: Reader, names: Sequence[str], lg_k: int) -> bytes:
@@ -43,14 +33,16 @@ def image_of(reader: Reader, names: Sequence[str], lg_k: int) -> bytes:
     if sink is not None:
         _add_all(reader, names, sink)
         return sink.image()
-    image = _library.new(lg_k, 8)
+    counter, are_ints = _library.new_counter(lg_k), reader.layout.are_ints
     with InputBar(names) as bar:
         for name in names:
             for batch in reader.batches(name, bar.read):
-                if batch.values:
-                    image = _library.add(image, *_joined(batch.values, reader.layout.are_ints))
+                if are_ints:
+                    _library.add_to_counter(counter, *joined(batch.values))
+                else:
+                    _library.add_pieces_to_counter(counter, batch.values)
                 bar.counted_lines(len(batch.values))
-    return image
+    return _library.image_of_counter(counter, 8)
 
 
 def _add_all(reader: Reader, names: Sequence[str], sink: Sink, more: Callable[[], None] = lambda: None) -> None:
@@ -78,54 +70,46 @@ def _order_of(key: Key) -> List[Tuple[bool, bytes]]:
     return [(not _is_text(part), part) for part in key]
 
 
-class _Images:
+class _Counters:
     """Sketches by key, in Python: what ``Rows`` is in C."""
 
-    def __init__(self, lg_k: int, most: int) -> None:
-        self._empty, self._most_waiting = _library.new(lg_k, 8), min(MOST_WAITING, most)
+    def __init__(self, lg_k: int) -> None:
+        self._lg_k = lg_k
         self.clear()
 
     def clear(self) -> None:
         """Removes all keys."""
-        self._images: Dict[Key, bytes] = {}
-        self._waiting: DefaultDict[Key, List[bytes]] = defaultdict(list)
-        self._bytes = self._waits = 0
+        self._counters: Dict[Key, _library.Counter] = {}
+        self._bytes = 0
 
     @property
     def size(self) -> int:
-        """The bytes in memory, without the values that wait."""
+        """The bytes in memory."""
         return self._bytes
 
     def add(self, keys: Sequence[Key], values: Sequence[bytes]) -> None:
-        """Adds values to the sketches of their keys. Each key costs a call of the library, so values wait."""
-        waiting = self._waiting
+        """Adds values to the sketches of their keys, those of a key together."""
+        groups: DefaultDict[Key, List[bytes]] = defaultdict(list)
         for key, value in zip(keys, values):
-            waiting[key].append(value)
-        self._waits += VALUE_BYTES * len(values) + sum(map(len, values))
-        if self._waits > self._most_waiting:
-            self._settle()
-
-    def _settle(self) -> None:
-        """Adds the values that wait."""
-        waiting, self._waiting, self._waits = self._waiting, defaultdict(list), 0
-        for key, some in waiting.items():
-            before = self._images.get(key)
-            if before is None:
-                before = self._empty
-                self._bytes += len(before) + sum(map(len, key)) + KEY_BYTES
-            self._images[key] = image = _library.add(before, *_joined(some, False))
-            self._bytes += len(image) - len(before)
+            groups[key].append(value)
+        for key, some in groups.items():
+            counter = self._counters.get(key)
+            if counter is None:
+                counter = self._counters[key] = _library.new_counter(self._lg_k)
+                self._bytes += sum(map(len, key)) + KEY_BYTES
+            before = counter.room
+            _library.add_pieces_to_counter(counter, some)
+            self._bytes += counter.room - before
 
     def keys(self) -> List[Key]:
         """Returns the keys, in the order in which they came."""
-        self._settle()
-        return list(self._images)
+        return list(self._counters)
 
     def images(self, numbers: Sequence[int], width: int) -> Iterator[bytes]:
         """Yields the images of keys, which are numbered as ``keys`` returns them."""
-        images = list(self._images.values())
+        counters = list(self._counters.values())
         for number in numbers:
-            yield images[number] if width == 8 else _library.convert(images[number], width)
+            yield _library.image_of_counter(counters[number], width)
 
 
 class Keyed:
@@ -144,15 +128,15 @@ class Keyed:
     def __init__(self, settings: Settings, reader: Reader, memory: int) -> None:
         self._settings, self._reader, self._most = settings, reader, memory
         self._sink = reader.sink(settings.lg_k)
-        self._some: Union[Rows, _Images] = self._store()
+        self._some: Union[Rows, _Counters] = self._store()
         self._rest: Optional[sqlite3.Connection] = None
 
-    def _store(self) -> Union[Rows, _Images]:
+    def _store(self) -> Union[Rows, _Counters]:
         """Returns what has the sketches in memory: what lines in C are added to, or what batches are."""
         if isinstance(self._sink, Rows):
             return self._sink
         lg_k = self._settings.lg_k
-        return Rows(lg_k, len(self._settings.keys)) if _splitter.is_here() else _Images(lg_k, self._most)
+        return Rows(lg_k, len(self._settings.keys)) if _splitter.is_here() else _Counters(lg_k)
 
     def read(self, names: Sequence[str]) -> None:
         """Adds the values of inputs to the sketches of their keys."""

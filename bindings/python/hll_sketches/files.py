@@ -3,6 +3,7 @@
 from __future__ import annotations
 
 import errno
+import io
 import os
 import re
 import stat
@@ -11,7 +12,7 @@ import time
 from codecs import getincrementaldecoder
 from contextlib import contextmanager, suppress
 from functools import partial
-from typing import Callable, Iterator, List, Optional, TypeVar
+from typing import IO, Callable, Iterator, List, Literal, Optional, TypeVar, cast
 
 from . import _library
 from ._errors import ImageError, explained
@@ -202,6 +203,27 @@ def read_image(read: Read) -> bytes:
         return data
     more = size_of(data) + MORE - PIECE
     return data + read_up_to(read, more) if more > 0 else data
+
+
+def opened_bytes(file: object, does: Literal["read", "write"]) -> Optional[IO[bytes]]:
+    """Returns a file of bytes that is open to read or to write, or None for anything else, such as a path.
+
+    Raises
+    ------
+    TypeError
+        If it is a file of text.
+    """
+    if isinstance(file, io.TextIOBase):
+        raise TypeError(f"expected a file of bytes, not of text: open it with the mode '{does[0]}b'")
+    return cast("IO[bytes]", file) if hasattr(file, does) else None
+
+
+def write_all(file: IO[bytes], data: bytes) -> None:
+    """Writes all bytes to an open file, of which a call may write a part."""
+    rest = memoryview(data)
+    while rest:
+        count = file.write(rest)
+        rest = rest[len(rest) if count is None else count :]
 
 
 def images_in_stream(read: Read) -> Iterator[bytes]:

@@ -2,14 +2,17 @@
 """The layout of an image (docs/FORMAT.md, "The image")."""
 from __future__ import annotations
 
-from typing import List, Tuple
+from typing import List, Literal, Tuple
 
 from . import _library
 
 DATABASE = b"SQLite format 3\0"
 """How an SQLite database begins, and no image."""
 
-STAGES = ("list", "set", "registers")
+Stage = Literal["list", "set", "registers"]
+"""The form of a sketch in an image."""
+
+STAGES: Tuple[Stage, ...] = ("list", "set", "registers")
 
 _FLAGS = ((4, "empty"), (8, "compact"), (16, "out of order"))
 

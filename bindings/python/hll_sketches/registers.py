@@ -83,7 +83,7 @@ class Registers:
 
     def update_many(self, values: Iterable[Value], *, skip_missing: bool = False) -> None:
         """Count many values, as ``Sketch.update_many`` does."""
-        for batch in batches(values, missing=Missing(skip_missing)):
+        for batch in batches(values, Missing(skip_missing)):
             with self._lock:
                 _library.add_to(self._place, *batch)
 

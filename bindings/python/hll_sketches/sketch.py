@@ -2,10 +2,13 @@
 """Sketches of distinct values."""
 from __future__ import annotations
 
+import ctypes
 import os
+from array import array
 from base64 import b64decode, b64encode
+from mmap import mmap
 from operator import index
-from typing import Any, Iterable, List, Optional, SupportsIndex, Tuple, Type, TypeVar, Union
+from typing import IO, Any, Iterable, List, Optional, Protocol, SupportsIndex, Tuple, Type, TypeVar, Union, cast
 
 from . import _library
 from ._columns import batch_of
@@ -14,16 +17,24 @@ from ._locks import Lock
 from ._missing import Missing
 from ._state import united
 from ._values import Value, batches, bytes_of
-from .layout import STAGES
+from .layout import STAGES, Stage
 
 _S = TypeVar("_S", bound="Sketch")
 
-Buffer = Union[bytes, bytearray, memoryview, Any]
-"""An object that shares its bytes: also an ``array``, an ``mmap``, or a NumPy array."""
+
+class _Array(Protocol):
+    """An array of NumPy."""
+
+    def __array__(self, *arguments: Any, **more: Any) -> Any:
+        """Return the array."""
+
+
+Buffer = Union[bytes, bytearray, memoryview, "array[Any]", "ctypes.Array[Any]", mmap, _Array]
+"""An object that shares its bytes, as a NumPy array does."""
 
 PENDING_BYTES, VALUE_BYTES = 1 << 12, 56
-"""A sketch buffers values of this many bytes, or twice the size of its image, before it hashes them; and
-the bytes that a buffered value needs in addition to its own."""
+"""A sketch buffers values of this many bytes before it hashes them; and the bytes that a buffered value needs
+in addition to its own."""
 
 
 def _checked_int(what: str, number: SupportsIndex) -> int:
@@ -60,7 +71,7 @@ def checked_width(width: int) -> int:
 def _view_of(source: Buffer) -> memoryview:
     """Returns a view of bytes, without a copy."""
     try:
-        return memoryview(source)
+        return memoryview(cast(bytes, source))
     except TypeError:
         cure = ": Sketch.read reads a file" if isinstance(source, (str, os.PathLike)) else ""
         name = type(source).__name__
@@ -148,7 +159,7 @@ class Sketch:
         If ``lg_k`` or ``width`` is out of range.
     """
 
-    __slots__ = ("_image", "_pending", "_pending_bytes", "_lock", "__weakref__")
+    __slots__ = ("_kept", "_width", "_pending", "_pending_bytes", "_lock", "__weakref__")
     __hash__ = None  # type: ignore[assignment]
 
     def __init__(self, lg_k: int = 12, width: int = 8) -> None:
@@ -156,7 +167,8 @@ class Sketch:
 
     def _set(self, image: bytes) -> None:
         """Begins with an image as the library writes it."""
-        self._image = image
+        self._kept: Union[bytes, _library.Counter] = image
+        self._width = 0     # of the images of a counter
         self._pending: List[bytes] = []
         self._pending_bytes = 0
         self._lock = Lock()
@@ -201,9 +213,17 @@ class Sketch:
             If true, these fields are zero, as the program ``hll_merge`` writes them. Other libraries
             then estimate infinity.
         """
-        if self._pending:
+        kept = None if self._pending else self._kept
+        image = kept if isinstance(kept, bytes) else self._settled()
+        return _library.clear_estimator_fields(image) if plain else image
+
+    def _settled(self) -> bytes:
+        """Keeps the sketch as an image, and returns it."""
+        with self._lock:
             self._apply()
-        return _library.clear_estimator_fields(self._image) if plain else self._image
+            if not isinstance(self._kept, bytes):
+                self._kept = _library.image_of_counter(self._kept, self._width)
+            return self._kept
 
     def __bytes__(self) -> bytes:
         return self.to_bytes()
@@ -240,11 +260,16 @@ class Sketch:
         return self.to_base64()
 
     @classmethod
-    def read(cls: Type[_S], path: Union[str, "os.PathLike[str]"]) -> _S:
+    def read(cls: Type[_S], path: Union[str, "os.PathLike[str]", IO[bytes]]) -> _S:
         """Read the file of a sketch.
 
         The first bytes of the file say how long the image is. Only one more byte is read, to see whether
         the file ends there.
+
+        Parameters
+        ----------
+        path : str, path or file
+            The file, or a file of bytes that is open to read, whose image begins at its position.
 
         Raises
         ------
@@ -253,15 +278,17 @@ class Sketch:
         ImageError
             If the file is not an image; ``place`` is its path.
         """
-        from .files import read_path
+        from .files import opened_bytes, read_image, read_path
 
-        name = os.fspath(path)
+        file = opened_bytes(path, "read")
+        name: Any = getattr(file, "name", None) if file is not None else os.fspath(cast("os.PathLike[str]", path))
+        data = read_image(file.read) if file is not None else read_path(name)
         try:
-            return cls.from_bytes(read_path(name))
+            return cls.from_bytes(data)
         except ImageError as error:
-            raise error.at(None, os.fsdecode(name)) from None
+            raise error.at(None, os.fsdecode(name) if isinstance(name, (str, bytes)) else None) from None
 
-    def write(self, path: Union[str, "os.PathLike[str]"], *, sync: bool = True) -> None:
+    def write(self, path: Union[str, "os.PathLike[str]", IO[bytes]], *, sync: bool = True) -> None:
         """Write the image to a file, and sync the file to disk.
 
         The file has the bytes of ``to_bytes``. At each moment it is either the old file or the
@@ -269,8 +296,9 @@ class Sketch:
 
         Parameters
         ----------
-        path : str or path
-            The file.
+        path : str, path or file
+            The file, or a file of bytes that is open to write. An open file gets the bytes at its
+            position, and is not synced.
         sync : bool
             Whether to wait until the file and its name are on disk. A disk takes up to 10 ms for this,
             and the rest of the call takes 0.1 ms. If false, the file can be empty or incomplete after a
@@ -282,9 +310,13 @@ class Sketch:
             If the file can't be written. Then the old file is unchanged, with one exception: if only
             the last sync fails, the new file is complete, but its name may not be on disk yet.
         """
-        from .files import write_path
+        from .files import opened_bytes, write_all, write_path
 
-        write_path(os.fspath(path), self.to_bytes(), sync)
+        file = opened_bytes(path, "write")
+        if file is not None:
+            write_all(file, self.to_bytes())
+        else:
+            write_path(os.fspath(cast("os.PathLike[str]", path)), self.to_bytes(), sync)
 
     @staticmethod
     def max_bytes(lg_k: int = 12, width: int = 8) -> int:
@@ -302,9 +334,8 @@ class Sketch:
     def update(self, value: Value) -> None:
         """Count a value. A value that was counted before changes nothing.
 
-        Values are buffered. They are hashed together when they take four kilobytes and twice the size
-        of the image, or when the sketch is used in another way. So a later call may raise
-        ``MemoryError``.
+        Values are buffered. They are hashed together when they take four kilobytes, or when the sketch
+        is used in another way. So a later call may raise ``MemoryError``.
 
         Parameters
         ----------
@@ -329,7 +360,7 @@ class Sketch:
         data = bytes_of(value)
         self._pending.append(data)
         self._pending_bytes += len(data) + VALUE_BYTES
-        if self._pending_bytes >= PENDING_BYTES and self._pending_bytes >= 2 * len(self._image):
+        if self._pending_bytes >= PENDING_BYTES:
             self._apply()
 
     def update_many(self, values: Iterable[Value], *, skip_missing: bool = False) -> None:
@@ -355,9 +386,8 @@ class Sketch:
         TypeError, OverflowError
             As by ``update``.
         """
-        for batch in batches(values, 8 + (1 << self.lg_k), Missing(skip_missing)):
-            with self._lock:
-                self._image = _library.add(self.to_bytes(), *batch)
+        for batch in batches(values, Missing(skip_missing)):
+            self._add(*batch)
 
     def update_bytes(self, data: Any, ends: Any) -> None:
         """Count concatenated byte strings, such as a column of strings in Arrow.
@@ -375,9 +405,7 @@ class Sketch:
         ArgumentError
             If the ends descend, or an end is past the bytes. Then nothing has changed.
         """
-        batch = batch_of(data, ends)
-        with self._lock:
-            self._image = _library.add(self.to_bytes(), *batch)
+        self._add(*batch_of(data, ends))
 
     def add_coupon(self, slot: int, value: int) -> None:
         """Add a coupon, which is what the hash makes of a value.
@@ -400,7 +428,7 @@ class Sketch:
         if not 1 <= value <= 63:
             raise ArgumentError(f"the value of a coupon is 1 to 63, not {value}")
         with self._lock:
-            self._image = _library.add_coupon(self.to_bytes(), slot, value)
+            _library.add_coupons_to_counter(self._counter(), _library.coupons_of([value << 26 | slot]))
 
     def merge(self, other: "Sketch", lg_max_k: Optional[int] = None) -> None:
         """Merge another sketch into this one, which becomes the union of both.
@@ -430,7 +458,7 @@ class Sketch:
             raise TypeError(f"a Sketch, not {type(other).__name__}")
         image, bound = other.to_bytes(), 0 if lg_max_k is None else checked_lg_k(lg_max_k)
         with self._lock:
-            self._image = self._merged(image, bound)
+            self._kept = self._merged(image, bound)
 
     def _merged(self, image: bytes, lg_max_k: int = 0) -> bytes:
         mine = self.to_bytes()
@@ -459,7 +487,7 @@ class Sketch:
     def reset(self) -> None:
         """Forget all values. The ``lg_k`` and the width stay."""
         with self._lock:
-            self._image = _library.new(self.lg_k, self.width)
+            self._kept = _library.new(self.lg_k, self.width)
             self._pending.clear()
             self._pending_bytes = 0
 
@@ -468,12 +496,23 @@ class Sketch:
         with self._lock:
             count = len(self._pending)
             if count:
-                kept = self._pending[:count]
-                data = b"".join(kept)
-                self._image = _library.add(self._image, data, _library.ends_of(kept), count)
+                _library.add_pieces_to_counter(self._counter(), self._pending[:count])
                 del self._pending[:count]
                 rest = self._pending
                 self._pending_bytes = sum(map(len, rest)) + VALUE_BYTES * len(rest)
+
+    def _add(self, values: bytes, ends: _library.Numbers, count: int) -> None:
+        """Adds values, delimited by their ends."""
+        with self._lock:
+            _library.add_to_counter(self._counter(), values, ends, count)
+
+    def _counter(self) -> _library.Counter:
+        """Keeps the sketch as a counter, which can be changed, and returns it."""
+        kept = self._kept
+        if isinstance(kept, bytes):
+            kept, self._width = _library.counter_of(kept)
+            self._kept = kept
+        return kept
 
     # ---- other sketches of the same values
 
@@ -508,22 +547,24 @@ class Sketch:
         DataSketches library stored a HIP estimate, and was not changed since.
         """
         with self._lock:
-            self._image = _library.set_estimator_fields(self.to_bytes())
+            self._kept = _library.set_estimator_fields(self.to_bytes())
 
     # ---- what it is
 
     @property
     def lg_k(self) -> int:
         """The base-2 logarithm of the number of registers."""
-        return _library.lg_k_in(self._image)
+        kept = self._kept
+        return _library.lg_k_in(kept) if isinstance(kept, bytes) else _library.summary_of(kept).lg_k
 
     @property
     def width(self) -> int:
         """The bits of a register: 4, 6 or 8."""
-        return _library.width_in(self._image)
+        kept = self._kept
+        return _library.width_in(kept) if isinstance(kept, bytes) else self._width
 
     @property
-    def stage(self) -> str:
+    def stage(self) -> Stage:
         """``"list"``, ``"set"`` or ``"registers"``."""
         return STAGES[_library.head(self.to_bytes()).stage]
 
@@ -557,7 +598,15 @@ class Sketch:
         The estimate from registers is proved to be near the exact value of the estimator. The
         estimate from coupons is tested.
         """
-        return _library.estimation(self.to_bytes()).estimate
+        return self._estimation().estimate
+
+    def _estimation(self) -> _library.Estimation:
+        kept = None if self._pending else self._kept
+        if isinstance(kept, bytes):
+            return _library.estimation(kept)
+        with self._lock:
+            self._apply()
+            return _library.estimation_of_counter(self._counter())
 
     def hip_estimate(self) -> Optional[float]:
         """Return the HIP estimate that another program stored with the registers, or None.
@@ -583,7 +632,7 @@ class Sketch:
             If ``deviations`` is another number.
         """
         number = checked_deviations(deviations) - 1
-        found = _library.estimation(self.to_bytes())
+        found = self._estimation()
         return found.lower[number], found.upper[number]
 
     def lower_bound(self, deviations: int = 2) -> float:
@@ -596,7 +645,7 @@ class Sketch:
 
     def relative_standard_error(self) -> float:
         """Return the standard deviation of the estimate, as a fraction of the number of values."""
-        return _library.estimation(self.to_bytes()).relative_standard_error
+        return self._estimation().relative_standard_error
 
     # ---- comparing
 
@@ -620,6 +669,10 @@ class Sketch:
             content = f"{found.coupons} coupons"
         name = type(self).__name__
         return f"<{name} lg_k={found.lg_k} width={found.width}: {STAGES[found.stage]}, {content}>"
+
+    def __format__(self, spec: str) -> str:
+        """Return the estimate in a format of numbers, as in ``f"{sketch:,.0f}"``; without one, what ``str`` returns."""
+        return format(self.estimate(), spec) if spec else str(self)
 
     # ---- copies
 

@@ -3,6 +3,8 @@
 import copy
 import ctypes
 import datetime
+import gzip
+import io
 import json
 import math
 import mmap
@@ -13,6 +15,7 @@ import re
 import struct
 import subprocess
 import sys
+import tempfile
 import threading
 import unittest
 import uuid
@@ -257,7 +260,6 @@ class SketchTest(unittest.TestCase):
             calls = (
                 lambda: _library.new(number, 8),
                 lambda: _library.new(12, number),
-                lambda: _library.add_coupon(image, 5, number),
                 lambda: _library.merge(12, number, image, image),
                 lambda: _library.union(12, number, [image]),
                 lambda: _library.convert(image, number),
@@ -291,8 +293,7 @@ class SketchTest(unittest.TestCase):
         sketch, many = Sketch(), Sketch()
         for value in range(10000):
             sketch.update(value)
-            room = max(4096, 2 * len(sketch._image))
-            self.assertLess(sum(map(sys.getsizeof, sketch._pending)), room)
+            self.assertLess(sum(map(sys.getsizeof, sketch._pending)), 4096)
         many.update_many(range(10000))
         self.assertEqual(sketch, many)
         large = Sketch()
@@ -448,6 +449,51 @@ class SketchTest(unittest.TestCase):
         self.assertIs(type(mine | Sketch(10)), Mine)
         self.assertIs(type(mine.fold(8)), Mine)
         self.assertIs(type(Mine.from_bytes(ONE)), Mine)
+
+    def test_open_files(self):
+        """A file that is open for bytes is read from its position, and written at it."""
+        made = self.filled()
+        with tempfile.TemporaryDirectory() as folder:
+            path = os.path.join(folder, "sketch.gz")
+            with gzip.open(path, "wb") as file:
+                made.write(file)
+            with gzip.open(path, "rb") as file:
+                self.assertEqual(Sketch.read(file), made)
+            with open(path, "wb", buffering=0) as file:
+                file.write(b"before")
+                made.write(file)
+            with open(path, "rb") as file:
+                self.assertEqual((file.read(6), Sketch.read(file)), (b"before", made))
+            with open(path, "rb") as file, self.assertRaises(ImageError) as caught:
+                Sketch.read(file)
+            self.assertEqual((caught.exception.reason, caught.exception.place), ("family", path))
+        for data, reason in ((b"", "truncated"), (made.to_bytes() * 2, "trailing")):
+            with self.assertRaises(ImageError) as caught:
+                Sketch.read(io.BytesIO(data))
+            self.assertEqual((caught.exception.reason, caught.exception.place), (reason, None))
+        for call, mode in ((Sketch.read, "rb"), (made.write, "wb")):
+            with self.assertRaisesRegex(TypeError, f"a file of bytes, not of text: open it with the mode '{mode}'"):
+                call(io.StringIO())
+
+    def test_a_file_that_takes_a_part(self):
+        """A file may write a part of what it is given, and the rest is written, too."""
+        class Slow(io.RawIOBase):
+            taken = b""
+
+            def write(self, data):
+                self.taken += bytes(data[:1000])
+                return min(len(data), 1000)
+
+        made, file = self.filled(), Slow()
+        made.write(file)
+        self.assertEqual(file.taken, made.to_bytes())
+
+    def test_format(self):
+        made = Sketch()
+        made.update_many(range(5000))
+        self.assertEqual(f"{made:.0f} {made:,.1f} {made:10.2e}", "{0:.0f} {0:,.1f} {0:10.2e}".format(made.estimate()))
+        self.assertEqual((f"{made}", f"{made!r:.7}"), (repr(made), "<Sketch"))
+        self.assertRaises(ValueError, format, made, "x!")
 
     def test_repr(self):
         self.assertEqual(repr(Sketch(10)), "<Sketch lg_k=10 width=8: list, 0 coupons>")
@@ -683,10 +729,10 @@ class ErrorsTest(unittest.TestCase):
         self.assertEqual((done.stdout, done.returncode), ("refused\n1\n", 0), done.stderr)
 
     def test_refused_memory_loses_nothing(self):
-        sketch, union = Sketch(), SketchUnion()
+        sketch, union, refuse = Sketch(), SketchUnion(), mock.Mock(side_effect=MemoryError)
         sketch.update("x")
         union.update(sketch)
-        with mock.patch.object(_library, "add", side_effect=MemoryError):
+        with mock.patch.multiple(_library, add_pieces_to_counter=refuse, add_to_counter=refuse):
             for call in (sketch.to_bytes, sketch.estimate, lambda: sketch.update_many(["y"])):
                 sketch.update("z")
                 with self.assertRaises(MemoryError):
@@ -704,6 +750,7 @@ class ErrorsTest(unittest.TestCase):
     def test_no_library(self):
         code = """
 import sys
+import tempfile
 sys.path.insert(0, sys.argv[1])
 from hll_sketches import Sketch, coupon
 for call in (Sketch, lambda: coupon("ann"), Sketch):

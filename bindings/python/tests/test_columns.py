@@ -155,13 +155,12 @@ class MemoryTest(ColumnTest):
         """No value becomes an object: a call for each batch, and none for a value."""
         calls, values = [], array("q", range(200_000))
 
-        def add(image, data, ends, count):
+        def add(counter, data, ends, count):
             calls.append(count)
-            return image
 
         with mock.patch.object(_values, "bytes_of", side_effect=AssertionError), \
                 mock.patch.object(_values, "joined", side_effect=AssertionError), \
-                mock.patch.object(_library, "add", side_effect=add):
+                mock.patch.object(_library, "add_to_counter", side_effect=add):
             Sketch().update_many(values)
         self.assertEqual(sum(calls), len(values))
         self.assertLess(len(calls), 8)
@@ -373,6 +372,19 @@ class NumPyTest(ColumnTest):
                 Sketch().update_many(values)
             self.assertEqual(skipped(values), wanted)
         self.assertRaises(TypeError, skipped, pandas.Series(pandas.to_datetime(["2026-11-28", None])))
+
+    @unittest.skipIf(pandas is None, "pandas is not here")
+    def test_times_of_pandas(self):
+        """The error has a line that counts the column as SQL counts its times."""
+        wanted = one_by_one([1795824000000000, 1795824000000001])
+        for zone in (None, "UTC", "Asia/Kolkata"):
+            times = pandas.to_datetime(["2026-11-28T00:00:00", "2026-11-28T00:00:00.000001", None])
+            times = times if zone is None else times.tz_localize("UTC").tz_convert(zone)
+            for values in (times, pandas.Series(times, name="seen")):
+                with self.assertRaisesRegex(TypeError, f"a column of datetime64.*{zone or ''}.* can't be counted: pass") as caught:
+                    skipped(values)
+                cure = re.search("pass (.*), as which", str(caught.exception)).group(1)
+                self.assertEqual(one_by_one(eval(cure, {"values": values}).tolist()), wanted)
 
 
 def fake_numbers():

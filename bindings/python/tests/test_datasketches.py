@@ -1,10 +1,16 @@
 # SPDX-License-Identifier: Apache-2.0
 """A program in the names of the package datasketches does what the same program does by Sketch and SketchUnion."""
 import copy
+import os
+import pathlib
 import pickle
+import re
+import subprocess
+import sys
+import tempfile
 import unittest
 
-import common  # noqa: F401, for the path
+import common
 from hll_sketches import ImageError, Sketch, SketchUnion
 from hll_sketches.datasketches import hll_sketch, hll_union, tgt_hll_type
 
@@ -18,6 +24,31 @@ def counted(lg_k, tgt_type, values):
         made.update(value)
     plain.update_many(value for value in values if value != "")
     return made, plain
+
+
+class Programs(unittest.TestCase):
+    def lines_of(self, program):
+        """What a program prints, with the files that it wrote."""
+        with tempfile.TemporaryDirectory() as folder:
+            environment = {**os.environ, "PYTHONPATH": str(common.PACKAGE), "PYTHONDONTWRITEBYTECODE": "1"}
+            done = subprocess.run([sys.executable, "-c", program, folder], capture_output=True, text=True, env=environment)
+            self.assertEqual((done.returncode, done.stderr), (0, ""))
+            return done.stdout.splitlines(), {file.name: file.read_bytes() for file in pathlib.Path(folder).iterdir()}
+
+    def test_a_program_that_moved(self):
+        """With the one line that the README changes it writes and prints what the program in our own names does."""
+        programs = common.PACKAGE / "tests" / "programs"
+        page = (common.PACKAGE / "README.md").read_text("utf-8")
+        before, after = re.search(r"```diff\n-(.*)\n\+(.*)\n```", page).groups()
+        program = (programs / "visitors_datasketches.py").read_text("utf-8")
+        self.assertEqual(program.count(before + "\n"), 1)
+        lines, files = self.lines_of(program.replace(before, after))
+        self.assertEqual((lines, files), self.lines_of((programs / "visitors.py").read_text("utf-8")))
+        self.assertEqual((len(lines), len(files)), (30, 15))
+        estimates = dict(re.findall(r"(?m)^(.*): ([0-9.]+) \(", "\n".join(lines)))
+        for name, wanted in {"page 1.*": 2250, "accounts.*": 700, "seconds.*": 40, "none.*": 0, "everyone": 7651}.items():
+            self.assertAlmostEqual(float(estimates[name]), wanted, delta=0.06 * wanted)
+        self.assertIn("page 1.2 is damaged", lines)
 
 
 class Sketches(unittest.TestCase):

@@ -51,7 +51,9 @@ class TypesTest(CommandTest):
     def test_a_program(self):
         """What a program that uses the package is told."""
         self.write("right.py", b"""\
+import io
 import pathlib
+from array import array
 from hll_sketches import Registers, Sketch, SketchUnion, coupons, merge_files, union_of
 made: Sketch = union_of([Sketch(), b""], 12, 8) | Sketch.read("x")
 made.update_many(open("x"))
@@ -65,13 +67,20 @@ kept: Registers = Registers.over(bytearray(4096)).fold(10)
 kept.merge(made)
 kept.add_coupons(coupons(["x"]))
 made = kept.to_sketch()
+with open("x", "rb") as source:
+    made = union_of([Sketch.read(source), b"", bytearray(), memoryview(b""), array("B")])
+made.write(io.BytesIO())
+are_registers: bool = made.stage == "registers"
 """)
-        wrong = "from hll_sketches import Sketch\nSketch('12')\nSketch().update(None)\n"
+        wrong = (
+            "from hll_sketches import Sketch, union_of\nSketch('12')\nSketch().update(None)\n"
+            "union_of([1])\nunion_of(['a.hll'])\nSketch().stage == 'register'\n"
+        )
         self.write("wrong.py", wrong.encode())
         status, out = self.checked("--strict", str(self.folder / "right.py"))
         self.assertEqual(status, 0, out)
         status, out = self.checked("--strict", str(self.folder / "wrong.py"))
-        self.assertEqual((status, len(re.findall("error:", out))), (1, 2), out)
+        self.assertEqual((status, len(re.findall("error:", out))), (1, 5), out)
 
 
 class BuildTest(CommandTest):
@@ -244,12 +253,12 @@ OTHER = r"""
 #include <stddef.h>
 typedef unsigned char u8;
 #define EMPTY(name) int name(void) { return 0; }
-EMPTY(hll_image_new) EMPTY(hll_image_add) EMPTY(hll_image_add_coupon) EMPTY(hll_image_merge)
+EMPTY(hll_image_new) EMPTY(hll_image_merge)
 EMPTY(hll_images_union) EMPTY(hll_image_fold) EMPTY(hll_image_convert) EMPTY(hll_image_check)
 EMPTY(hll_image_size) EMPTY(hll_image_trailing) EMPTY(hll_image_set_estimator_fields) EMPTY(hll_image_clear_estimator_fields) EMPTY(hll_images_agree) EMPTY(hll_coupon) EMPTY(hll_coupons)
 EMPTY(hll_estimate) EMPTY(hll_hip_estimate)
 EMPTY(hll_counter_free) EMPTY(hll_counter_add) EMPTY(hll_counter_settle) EMPTY(hll_counter_shrink) EMPTY(hll_counter_copy) EMPTY(hll_counter_join) EMPTY(hll_counter_info)
-EMPTY(hll_counter_image) EMPTY(hll_counter_estimate)
+EMPTY(hll_counter_add_many) EMPTY(hll_counter_add_coupons) EMPTY(hll_counter_image) EMPTY(hll_counter_estimate)
 EMPTY(hll_registers_add) EMPTY(hll_registers_add_coupons)
 EMPTY(hll_registers_merge) EMPTY(hll_registers_merge_registers) EMPTY(hll_registers_fold)
 EMPTY(hll_registers_histogram) EMPTY(hll_registers_image) EMPTY(hll_registers_estimate)

@@ -409,7 +409,7 @@ class MemoryTest(unittest.TestCase):
         return kept, size
 
     def test_sketches_that_are_updated(self):
-        """A sketch keeps no more than three times its image, and four kilobytes, of values."""
+        """A sketch keeps at most four kilobytes of values, and its counter has room for half as many registers again."""
 
         def fill(count, values, lg_k=12):
             made = [Sketch(lg_k) for _ in range(count)]
@@ -420,8 +420,9 @@ class MemoryTest(unittest.TestCase):
 
         for count, values, lg_k in ((20, 4095, 12), (50, 60, 12), (5, 3000, 14)):
             made, size = self.taken(lambda: fill(count, values, lg_k))
-            images = sum(len(one.to_bytes()) for one in made)
-            self.assertLess(size, 3 * images + count * 5500, (count, values))
+            rooms = sum(one._kept.room for one in made)
+            self.assertLess(size, count * 5500, (count, values))
+            self.assertLessEqual(rooms, count * (1.5 * 2**lg_k + 100), (count, values))
 
     def test_a_long_value_is_not_kept(self):
         made = Sketch()

@@ -1,6 +1,6 @@
 // SPDX-License-Identifier: Apache-2.0
 //! A program in the names of the crate `datasketches` 0.6.0. The tests build it with this crate under that name, by the line of the
-//! README in Cargo.toml and no other change.
+//! README in Cargo.toml and no other change, and again with the name of this crate in its lines `use`.
 use std::collections::HashMap;
 use std::sync::{mpsc, Arc, RwLock};
 use std::{env, fs, thread};
@@ -93,6 +93,11 @@ fn main() -> Result<(), Box<dyn std::error::Error>> {
     }
     assert_eq!(users.len(), 5);
     assert!(users.values().all(|union| is_near(union.estimate(), 600.0)));
+    let mut names: Vec<_> = users.keys().collect();
+    names.sort();
+    for page in names {
+        println!("{page}: {:.3}, at most {:.3}", users[page].estimate(), users[page].upper_bound(NumStdDev::Two));
+    }
 
     // files, read again by another thread while this one reads, too
     let folder = env::temp_dir().join(format!("switch-{}", std::process::id()));

@@ -23,7 +23,8 @@ returns-clause-added c =
     let raw : c.raw-raw.result ≡ coupon_of_bytes c.args.value.now = c.raw-raw.ensures ∙ c.from_bytes.ensures.bytes in
     subst (λ n. AddsToState (TakesValues c.args.state.now) (n ∷ []) c.args.state.now c.add_raw.new.state c.args.size.now c.add_raw.new.size c.add_raw.result) raw c.add_raw.ensures.added
 
-pub returns-then-may_hold_coupons-clause-added : goal.returns-then-may_hold_coupons-clause-added
-returns-then-may_hold_coupons-clause-added c =
+pub returns-then-append-clause-added : goal.returns-then-append-clause-added
+returns-then-append-clause-added c =
     let raw : c.raw-raw.result ≡ coupon_of_bytes c.args.value.now = c.raw-raw.ensures ∙ c.from_bytes.ensures.bytes in
-    subst (λ n. AddsToState (TakesValues c.args.state.now) (n ∷ []) c.args.state.now c.add_few.new.state c.args.size.now c.add_few.new.size c.add_few.result) raw c.add_few.ensures.added
+    subst (λ n. AddsToState (TakesValues c.args.state.now) (n ∷ []) c.args.state.now c.append.new.state c.args.size.now c.args.size.now 0) raw
+    (added (c.append.ensures.decided c.if-append.true) (c.append.ensures.added c.if-append.true) refl)
