@@ -184,9 +184,7 @@ bool deviations_in(sqlite3_context *context, sqlite3_value *value, int *deviatio
 
 uint8_t named_lg_k(hll_bytes image)
 {
-    hll_head head = head_of(image);
-
-    return head.lg_k == 0 ? 4 : head.lg_k;
+    return head_of(image).lg_k;
 }
 
 /* ---- images that are written */

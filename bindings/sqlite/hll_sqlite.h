@@ -38,8 +38,7 @@ void refuse_argument(sqlite3_context *context, const char *format, const char *n
  * them. */
 void refuse_other_lg_k(sqlite3_context *context, int lg_k, int other, const char *call);
 
-/* Returns the lg_k in the header of an image. If the bytes are not an image, it is any number in range; reading them reports
- * the error. */
+/* Returns the lg_k in the header of an image. */
 uint8_t named_lg_k(hll_bytes image);
 
 /* ---- images that are written */
