@@ -46,7 +46,7 @@ LAYERS = (
     (0, 1, 3, 7, TESTED, "C++, Rust, Go, JavaScript", "sketches and unions"),
     (0, 1, 7, 10, TESTED, "PostgreSQL, SQLite", "aggregates, functions"),
     (0, 1, 10, 12, TESTED, "Python", "hll, Dask"),
-    (1, 1, 3, 9, TESTED, "Counters, in plain C", "get memory for a sketch, copy bytes to it and free it"),
+    (1, 1, 3, 9, TESTED, "Counters, in plain C", "allocate, copy and free the memory of a sketch"),
     (1, 1, 9, 12, TESTED, "Bounds, few values", "in plain C"),
     (2, 1, 3, 12, PROVED, "C library: calls over images, states and registers",
         "hash, add, read, merge, fold, convert, compare, write, estimate from registers"),

@@ -37,7 +37,7 @@ static void *by_malloc(void *context, void *memory, size_t size)
  * pointer, for which WebAssembly needs a table of functions (bindings/javascript). */
 #ifdef HLL_MALLOC_ONLY
 #define ALLOCATOR(function) NULL
-#define CALL(counter, memory, size) by_malloc(NULL, memory, size)
+#define CALL(counter, memory, size) ((void)(counter), by_malloc(NULL, memory, size))
 #else
 #define ALLOCATOR(function) (function)
 #define CALL(counter, memory, size) (counter)->allocator((counter)->context, memory, size)
@@ -80,11 +80,18 @@ static hll_status grow(hll_counter *counter, size_t room)
     return HLL_OK;
 }
 
-/* Frees all but so many bytes of the memory, if it has more. If that fails, nothing changes. */
+/* Frees the memory after the first `size` bytes, in which the state is. A small state moves into the struct. If the allocator returns
+ * NULL, nothing changes. */
 static void shrink(hll_counter *counter, size_t size)
 {
-    uint8_t *state = size < counter->room ? CALL(counter, counter->at.state, size) : NULL;
-    if (state != NULL) {
+    uint8_t *state = counter->at.state;
+    if (size >= counter->room)
+        return;
+    if (size <= sizeof counter->at.first) {
+        memcpy(counter->at.first, state, size);
+        counter->room = 0;
+        (void)CALL(counter, state, 0);
+    } else if ((state = CALL(counter, state, size)) != NULL) {
         counter->at.state = state;
         counter->room = (uint32_t)size;
     }
@@ -99,25 +106,27 @@ static int has_grown(hll_counter *counter, hll_status *status, size_t room)
     return *status == HLL_OK;
 }
 
-/* Frees what registers don't take, where the state has become registers, or they were folded. */
+/* Frees what registers don't need, after coupons have become registers, or registers were folded. */
 static void trim(hll_counter *counter)
 {
-    hll_state_summary said = summary_of(counter);
-    int has_registers = said.stage == HLL_REGISTERS;
+    hll_state_summary said;
+    int has_registers;
     if (counter->is_reserved)
         return;
-    counter->is_loose = !has_registers && counter->room >= HLL_STATE_MOST(said.lg_k);
+    said = summary_of(counter);
+    has_registers = said.stage == HLL_REGISTERS;
+    counter->has_spare_room = !has_registers && counter->room >= HLL_STATE_MOST(said.lg_k);
     if (has_registers)
         shrink(counter, (size_t)said.size);
 }
 
-/* Does so after the call for which a state grew. If it has got the room of registers, its coupons are sorted: then they become
- * registers, unless many of them were repeated. */
+/* Trims after a call for which the state grew. If it grew to the room of registers, sorts its coupons: then they become registers,
+ * unless some of them were repeated. */
 static void trim_grown(hll_counter *counter)
 {
     hll_estimation unwanted;
     trim(counter);
-    if (counter->is_loose) {
+    if (counter->has_spare_room) {
         (void)hll_state_estimate(state_of(counter), room_of(counter), &unwanted);
         trim(counter);
     }
@@ -132,7 +141,7 @@ hll_status hll_counter_add(hll_counter *counter, const uint8_t *value, size_t le
     if (has_grown(counter, &status, room)) {
         status = hll_state_add_value(state_of(counter), room_of(counter), &room, value, len);
         trim_grown(counter);
-    } else if (counter->is_loose)
+    } else if (counter->has_spare_room)
         trim(counter);
     return status;
 }
@@ -145,7 +154,7 @@ hll_status hll_counter_add_many(hll_counter *counter, const uint8_t *values, siz
     if (has_grown(counter, &status, room)) {
         status = hll_state_add(state_of(counter), room_of(counter), &room, values, values_len, ends, n);
         trim_grown(counter);
-    } else if (counter->is_loose)
+    } else if (counter->has_spare_room)
         trim(counter);
     return status;
 }
@@ -157,7 +166,7 @@ hll_status hll_counter_add_coupons(hll_counter *counter, const uint32_t *coupons
     if (has_grown(counter, &status, room)) {
         status = hll_state_add_coupons(state_of(counter), room_of(counter), &room, coupons, n);
         trim_grown(counter);
-    } else if (counter->is_loose)
+    } else if (counter->has_spare_room)
         trim(counter);
     return status;
 }
@@ -269,13 +278,23 @@ hll_status hll_counter_info(const hll_counter *counter, hll_state_summary *summa
     return hll_state_info(state_of(counter), room_of(counter), summary, summary_size);
 }
 
+/* Returns whether merging a counter into another one changes no byte of it (hll_state.h). Copying a small state takes less time than
+ * finding out. */
+static int is_settled(const hll_counter *counter)
+{
+    hll_estimation unwanted;
+    return summary_of(counter).stage == HLL_REGISTERS ||
+           (room_of(counter) > ON_STACK &&
+            hll_state_settled_estimate(state_of(counter), room_of(counter), &unwanted) == HLL_OK);
+}
+
 hll_status hll_counter_join_counter(hll_counter *counter, const hll_counter *other)
 {
     copy made;
     hll_status status;
     if (counter == other)
         return HLL_OK;
-    if (summary_of(other).stage == HLL_REGISTERS) /* of which a join changes no byte (hll.h) */
+    if (is_settled(other))
         return join_state(counter, state_of(other), room_of(other));
     status = make_copy(other, &made);
     if (status == HLL_OK)
@@ -302,14 +321,14 @@ hll_status hll_counter_init(hll_counter *counter, unsigned lg_k, hll_allocator a
 void hll_counter_free(hll_counter *counter)
 {
     release(counter);
-    counter->is_reserved = 0;
-    hll_counter_reset(counter);
+    (void)hll_counter_init(counter, counter->lg_max_k, counter->allocator, counter->context);
 }
 
 void hll_counter_reset(hll_counter *counter)
 {
     (void)hll_state_new(counter->lg_max_k, state_of(counter), room_of(counter));
-    counter->is_loose = 0;
+    counter->is_reserved = 0;
+    trim(counter);
 }
 
 hll_status hll_counter_bind(hll_counter *counter, unsigned lg_max_k)
@@ -326,17 +345,21 @@ hll_status hll_counter_bind(hll_counter *counter, unsigned lg_max_k)
 hll_status hll_counter_copy(hll_counter *to, const hll_counter *from)
 {
     hll_counter made = *from;
+    size_t size = from->room != 0 ? (size_t)summary_of(from).size : 0;
     if (to == from)
         return HLL_OK;
     made.allocator = to->allocator;
     made.context = to->context;
-    if (from->room != 0) {
-        made.room = (uint32_t)summary_of(from).size;
-        made.is_loose = made.is_reserved = 0;
-        made.at.state = CALL(to, NULL, made.room);
+    made.has_spare_room = made.is_reserved = 0;
+    if (size > sizeof made.at.first) {
+        made.room = (uint32_t)size;
+        made.at.state = CALL(to, NULL, size);
         if (made.at.state == NULL)
             return HLL_MEMORY;
-        memcpy(made.at.state, from->at.state, made.room);
+        memcpy(made.at.state, from->at.state, size);
+    } else if (size > 0) {
+        made.room = 0;
+        memcpy(made.at.first, from->at.state, size);
     }
     release(to);
     *to = made;
@@ -347,7 +370,7 @@ hll_status hll_counter_settle(hll_counter *counter)
 {
     hll_estimation unwanted;
     hll_status status = hll_state_estimate(state_of(counter), room_of(counter), &unwanted); /* which sorts the coupons */
-    if (counter->is_loose)
+    if (counter->has_spare_room)
         trim(counter);
     return status;
 }
@@ -363,13 +386,13 @@ hll_status hll_counter_reserve(hll_counter *counter)
         status = grow(counter, most);
     if (status == HLL_OK) {
         counter->is_reserved = 1;
-        counter->is_loose = 0;
+        counter->has_spare_room = 0;
     }
     return status;
 }
 
 void hll_counter_shrink(hll_counter *counter)
 {
-    counter->is_loose = counter->is_reserved = 0;
+    counter->has_spare_room = counter->is_reserved = 0;
     shrink(counter, (size_t)summary_of(counter).size);
 }

@@ -14,7 +14,8 @@
  *     below). Programs that count begin with it.
  *     An image is the bytes of a sketch, for files, columns and other DataSketches libraries. Calls over images read an image
  *     and write another one.
- *     A state is what a counter has in its memory, for programs that map, share or move that memory themselves (hll_state.h).
+ *     A state is a sketch in memory of the program's, which may map, share or move it (hll_state.h). A counter has one in its
+ *     memory.
  *     Registers are an array of 2^lg_k bytes, a sketch of constant size ("caller-owned registers" below).
  * Images, states and registers are in the caller's memory, and the library keeps nothing of them between calls.
  *
@@ -29,7 +30,7 @@
  *     1 to 11 (HLL_TRUNCATED to HLL_REGISTER): the bytes are not an image. The status is the first check that they fail.
  *     HLL_ARGUMENT: an argument is out of its range. This is checked before images are read, except where the check needs
  *     the image: if a fold is to an lg_k above the image's, or the image has no HIP estimate.
- *     HLL_MEMORY: malloc returned NULL. The same call can be made again.
+ *     HLL_MEMORY: malloc, or the allocator of a counter, returned NULL. The same call can be made again.
  *     HLL_BUFFER: the buffer is too small. *size is the number of bytes that are needed.
  *     HLL_COARSER: the sketch to be merged has fewer registers. *lg_k is its lg_k.
  *     HLL_OTHER_LG_K: the sketches have different lg_k, and no lg_max_k was given.
@@ -119,12 +120,12 @@
  *       the bytes don't depend on the order, repetition and grouping of the images (the laws bytes_of_unions of hll_sketch), and
  *       the union is canonical too.
  *     - What hll_image_head reports. If the bytes begin with an image, the size is the size of that image.
- *     - What a counter counts, merges and writes, and what it estimates from registers: proved calls alone decide it.
- *     Not proved, but tested: the C of counters, which gets memory, copies states to it and frees it; bounds, estimates from
- *     coupons, hll_image_trailing, hll_state_check, hll_hip_estimate, hll_version, hll_processor, the division of a state's room
- *     by four, and what this header defines itself. Nothing is proved of time, threads, NULL and other libraries. Of memory two
- *     things are proved: for which images an allocation may fail, and that a state which was copied to the memory that a call
- *     asked for is the same state, with enough room for that call.
+ *     Not proved, but tested: the C of counters, which allocates memory, copies states to it, frees it, and hands everything else to
+ *     these calls; bounds, estimates from coupons, hll_image_trailing, hll_state_check, hll_hip_estimate, hll_version,
+ *     hll_processor, the division of a state's room by four, and what this header defines itself. Nothing is proved of time,
+ *     threads, NULL and other libraries. Of memory two things are proved: for which images an allocation may fail, and that a
+ *     state whose bytes were copied to the memory that a call asked for is the same state, with enough room for that call (for a
+ *     state whose lg_k isn't open).
  */
 #ifndef HLL_H
 #define HLL_H
@@ -163,7 +164,7 @@ enum {
     HLL_REGISTER = 11,      /* a register above 63, or nibbles and exceptions that don't agree */
     /* The call can't be done. */
     HLL_ARGUMENT = 12,   /* an argument is out of its range */
-    HLL_MEMORY = 13,     /* malloc returned NULL */
+    HLL_MEMORY = 13,     /* malloc, or the allocator of a counter, returned NULL */
     HLL_BUFFER = 14,     /* the buffer is too small; *size is the size needed */
     HLL_COARSER = 15,    /* the sketch to be merged has fewer registers; *lg_k is its lg_k */
     HLL_OTHER_LG_K = 16, /* the sketches have different lg_k, and no lg_max_k was given */
@@ -273,16 +274,15 @@ const char *hll_processor(void);
  *
  * (A program also checks the statuses.)
  *
- * If a call returns anything but HLL_OK, the sketch is as it was, and the counter can be used and freed. Nothing that the call
- * allocated is lost.
+ * If a call returns anything but HLL_OK, the sketch is as it was, perhaps in more memory, and the counter can be used and freed.
  *
  * Calls with a const hll_counter change nothing, so any number of threads may make them on one counter at once, if threads may
  * call the allocator at once. During any other call on a counter no other thread may use it. To be read, a counter is copied if its
- * coupons aren't sorted: to the stack, or to memory of the allocator if that takes more than 2 KiB. hll_counter_settle sorts them,
- * so that readers copy nothing.
+ * coupons aren't sorted: to the stack, or to memory of the allocator if that takes more than 2 KiB. hll_counter_settle sorts them.
+ * Then no call allocates a copy.
  *
  * What a counter counts, merges and writes, and what it estimates from registers, is decided by the proved calls on states alone.
- * The C around them (bindings/c/counter.c) gets memory, copies bytes to it and frees it. It is tested, not proved.
+ * The C around them (bindings/c/counter.c) allocates memory, copies bytes to it and frees it. It is tested, not proved.
  */
 
 /* The number of coupons for which a counter has room in the struct. */
@@ -298,10 +298,10 @@ typedef void *(*hll_allocator)(void *context, void *memory, size_t size);
 typedef struct hll_counter {
     hll_allocator allocator;
     void *context;
-    uint32_t room;       /* the bytes of at.state, or 0: then the state is in at.first */
-    uint8_t lg_max_k;    /* the bound of joins, or 0 for none */
-    uint8_t is_loose;    /* whether the state grew to the room that coupons need to become registers, and still has coupons */
-    uint8_t is_reserved; /* whether it keeps room that it doesn't need */
+    uint32_t room;          /* the bytes of at.state, or 0: then the state is in at.first */
+    uint8_t lg_max_k;       /* the bound of merges, or 0 for none */
+    uint8_t has_spare_room; /* whether the state has coupons, and the room in which they can become registers */
+    uint8_t is_reserved;    /* whether the counter keeps room that the state doesn't need */
     union {
         uint8_t *state;
         uint8_t first[40 + 4 * HLL_COUNTER_COUPONS];
@@ -309,14 +309,15 @@ typedef struct hll_counter {
 } hll_counter;
 
 /* Makes an empty counter of an lg_k of 4 to 21; or one whose lg_k is open (0): the first image or counter with values that is
- * joined decides it, and until then adding returns HLL_ARGUMENT (hll_state_new). If allocator is NULL, it is that of malloc.
+ * merged into it decides it, and until then adding returns HLL_ARGUMENT. If allocator is NULL, the counter allocates with malloc.
  * Returns HLL_OK or HLL_ARGUMENT. Allocates nothing. */
 hll_status hll_counter_init(hll_counter *counter, unsigned lg_k, hll_allocator allocator, void *context);
 
-/* Frees the memory of a counter, which is then empty, with its bound as its lg_k. */
+/* Frees the memory of a counter, which is then empty, with its bound as its lg_k, or open if it has no bound. */
 void hll_counter_free(hll_counter *counter);
 
-/* Removes all values, and keeps the memory for others. The counter is then empty, with its bound as its lg_k. */
+/* Removes all values, and keeps the memory for others. The counter is then empty, with its bound as its lg_k, or open if it has no
+ * bound. */
 void hll_counter_reset(hll_counter *counter);
 
 /* Add a value, values delimited by `ends` (all or none), or raw coupons (all or none).
@@ -326,14 +327,14 @@ hll_status hll_counter_add_many(hll_counter *counter, const uint8_t *values, siz
                                 size_t n);
 hll_status hll_counter_add_coupons(hll_counter *counter, const uint32_t *coupons, size_t n);
 
-/* Join the sketch of an image, or of another counter. A counter that was initialised with an lg_k merges sketches of any lg_k,
- * under it as the bound, and then has the smallest lg_k. An open one merges sketches of one lg_k, and returns HLL_OTHER_LG_K for
+/* Merge the sketch of an image, or of another counter, into a counter. A counter that was initialised with an lg_k merges sketches of
+ * any lg_k, under it as the bound, and then has the smallest lg_k. An open one merges sketches of one lg_k, and returns HLL_OTHER_LG_K for
  * another.
  * Return HLL_OK, 1 to 11, HLL_MEMORY or HLL_OTHER_LG_K. */
 hll_status hll_counter_join(hll_counter *counter, const uint8_t *image, size_t len);
 hll_status hll_counter_join_counter(hll_counter *counter, const hll_counter *other);
 
-/* Sets the bound of joins from now on: 0, with which the counter merges sketches of its lg_k only, or an lg_k of at least the
+/* Sets the bound of merges from now on: 0, with which the counter merges sketches of its lg_k only, or an lg_k of at least the
  * counter's, with which it merges sketches of any. An open counter becomes a new one of that lg_k.
  * Returns HLL_OK or HLL_ARGUMENT. */
 hll_status hll_counter_bind(hll_counter *counter, unsigned lg_max_k);
@@ -342,10 +343,10 @@ hll_status hll_counter_bind(hll_counter *counter, unsigned lg_max_k);
  * Returns HLL_OK or HLL_MEMORY. */
 hll_status hll_counter_copy(hll_counter *to, const hll_counter *from);
 
-/* Sorts the coupons, so that reading copies nothing. Returns HLL_OK. */
+/* Sorts the coupons, so that reading allocates no copy. Returns HLL_OK. */
 hll_status hll_counter_settle(hll_counter *counter);
 
-/* Makes room for any number of values, so that adding allocates nothing until a shrink.
+/* Makes room for any number of values, so that adding allocates nothing until a shrink, a reset or a free.
  * Returns HLL_OK, HLL_MEMORY, or HLL_ARGUMENT if the lg_k is open. */
 hll_status hll_counter_reserve(hll_counter *counter);
 

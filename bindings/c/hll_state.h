@@ -26,8 +26,8 @@
  * is above 63, calls that read it return HLL_REGISTER.
  *
  * A state takes 40 bytes, and four for each coupon. It takes more if values repeat, because a repeated coupon stays until the
- * coupons are sorted. Before a call returns HLL_BUFFER it sorts them, unless at most half of the coupons is unsorted (a sixteenth,
- * where *size is the room of registers).
+ * coupons are sorted. Before a call returns HLL_BUFFER it sorts the coupons, if more than half of them are unsorted, or more than a
+ * sixteenth if *size is HLL_STATE_MOST.
  * When coupons become registers it needs HLL_STATE_MOST, because the registers are made next to the coupons.
  *
  * Use a state in one thread at a time, because calls on a state may change its bytes. hll_state_info, hll_state_settled_image and

@@ -11,8 +11,9 @@
 //     week.update_image(image.data(), image.size());
 //     std::cout << week.estimate() << " distinct values\n";
 //
-// Memory. A sketch and a union own their memory and free it. The object itself has 128 bytes, and holds up to 14 values.
-// With more it allocates 40 bytes and four for each value, and up to half as much again. Registers have one byte each and
+// Memory. A sketch and a union own their memory and free it. The object itself has 128 bytes, and holds up to 14 values,
+// or fewer if they repeat.
+// With more it allocates 40 bytes and four for each value, and up to half as much again and 32. Registers have one byte each and
 // 40 bytes, at every width. While a call makes registers of coupons there is room for both
 // (docs/CHOOSING.md, "Memory"). memory_size() returns the bytes that are allocated, and shrink_to_fit() frees those that
 // are not used. Copies are independent. A sketch that was moved from is empty, and can be used again.
@@ -375,7 +376,7 @@ class state {
     void shrink() noexcept
     {
         if (room() > size_t(1) << lg_k())
-            hll_counter_settle(&counter_); // if an allocation fails, nothing has changed
+            hll_counter_settle(&counter_);
         hll_counter_shrink(&counter_);
     }
 
@@ -714,7 +715,8 @@ class counter {
         if (std::is_pointer<Value>::value) // to texts, of which one may be null after others
             return update_many(values, values + n);
         uint32_t coupons[batch];
-        if (n > batch && !state_.has_registers()) {
+        const bool reserves = n > batch && !state_.has_registers();
+        if (reserves) {
             if (n <= (size_t(1) << lg_k()) / 4) // their coupons take no more than registers
                 return update_at_once(values, n);
             const hll_status status = state_.reserve(); // so no batch fails with bad_alloc after others were added
@@ -726,6 +728,8 @@ class counter {
             hash_batch(values, done, some, coupons);
             add(coupons, some);
         }
+        if (reserves)
+            state_.shrink();
     }
 
     template <class Iterator, class End> void add_between(Iterator from, End to, std::true_type)

@@ -75,7 +75,7 @@ def input_of(plan):
 
 
 def some_values(chance):
-    """Two bytes, which stand for a number of values: few, as many as wait in a counter, or many."""
+    """Two bytes, which stand for a number of values: few, more than are in the struct of a counter, or many."""
     number = chance.choice((chance.randrange(20), chance.randrange(16, 60), chance.randrange(300, 1200)))
     return bytes([number % 4, number // 4]) if number < 1024 else bytes([number - 1020, 255])
 

@@ -1,5 +1,5 @@
 /* SPDX-License-Identifier: Apache-2.0 */
-/* Threads read one counter at once, with coupons that wait and without. */
+/* Threads read one counter at once, with sorted coupons and with others. */
 #include "test.h"
 
 #include <pthread.h>

@@ -7,7 +7,7 @@
 
 typedef struct heap {
     long live;     /* blocks */
-    long fails_at; /* this allocation from now on fails; 0: none */
+    long fails_at; /* the allocation that fails, counted from now on; 0: none */
 } heap;
 
 /* Each block begins with its size. What is made smaller moves. */
@@ -333,6 +333,7 @@ static void walk(int steps)
             static model before, after;
             long attempt;
             int kept_room = 0;
+            heap *failing = kind == JOIN_COUNTER && pick(2) == 0 ? &heaps[1 - at] : of; /* the other one is copied */
             hll_status wanted;
             bound = pick(3) == 0 ? pick(24) : lg_ks[pick(8)];
             n_values = any_size();
@@ -345,18 +346,18 @@ static void walk(int steps)
                 const hll_counter *read = kind == IMAGE || kind == ESTIMATE ? counter : other;
                 const uint64_t sum = sum_of(read);
                 hll_status status;
-                of->fails_at = attempt;
+                failing->fails_at = attempt;
                 status = act(kind, counter, other);
                 CHECK(sum_of(read) == sum, "kind %d changed a counter that it only reads", kind);
-                if (of->fails_at == 0 && status == HLL_MEMORY) {
+                if (failing->fails_at == 0 && status == HLL_MEMORY) {
                     failures[kind]++;
                     CHECK(is_model(counter, &before, 1), "kind %d, attempt %ld", kind, attempt);
                     CHECK(of->live == blocks_of(counter), "a block is lost, kind %d", kind);
                     need(attempt < 100, "an end of failures");
                     continue;
                 }
-                kept_room = of->fails_at == 0;
-                of->fails_at = 0;
+                kept_room = failing->fails_at == 0;
+                failing->fails_at = 0;
                 CHECK(status == wanted, "kind %d: %d, not %d", kind, status, wanted);
                 done[kind]++;
                 break;
@@ -407,7 +408,7 @@ static void test_refused_coupons(void)
     }
 }
 
-/* Adds values one by one, of which so many are distinct, and returns the most bytes that the counter then allocated. */
+/* Adds values one by one, `distinct` of them distinct, and returns the most bytes that the counter then had allocated. */
 static size_t most_room(hll_counter *counter, uint64_t values, uint64_t distinct)
 {
     uint64_t i;
@@ -432,11 +433,54 @@ static void test_room(void)
     CHECK(counter.room == 40 + 4096, "%lu bytes for registers", (unsigned long)counter.room);
     hll_counter_free(&counter);
     CHECK(most_room(&counter, 50000, 340) <= 40 + 4 * 384, "340 values that repeat");
+    hll_counter_free(&counter);
     CHECK(hll_counter_reserve(&counter) == HLL_OK && counter.room == HLL_STATE_MOST(12), "reserved");
     CHECK(most_room(&counter, 5000, 5000) == HLL_STATE_MOST(12) && counter.room == HLL_STATE_MOST(12), "room that was reserved");
     hll_counter_shrink(&counter);
     CHECK(counter.room == 40 + 4096, "%lu bytes after a shrink", (unsigned long)counter.room);
+    hll_counter_reset(&counter);
+    need(hll_counter_add(&counter, values, 8) == HLL_OK, "a value");
+    hll_counter_shrink(&counter);
+    CHECK(counter.room == 0, "one value is in the struct");
     hll_counter_free(&counter);
+}
+
+/* After hll_counter_reserve adding allocates nothing, whatever the counter had before. */
+static void test_reserved(void)
+{
+    static const size_t sizes[] = {0, 5, 100, 384, 4000};
+    static heap of;
+    size_t i;
+    for (i = 0; i < 5; i++) {
+        hll_counter counter;
+        hll_counter_init(&counter, 12, allocate, &of);
+        fill(sizes[i] > 0 ? sizes[i] : 1, 1u << 30);
+        need(hll_counter_add_many(&counter, values, 8 * sizes[i], ends, sizes[i]) == HLL_OK, "values");
+        CHECK(hll_counter_reserve(&counter) == HLL_OK, "reserve");
+        of.fails_at = 1;
+        (void)most_room(&counter, 5000, 5000);
+        CHECK(of.fails_at == 1, "%zu values before: an allocation after it was reserved", sizes[i]);
+        of.fails_at = 0;
+        hll_counter_reset(&counter);
+        CHECK(most_room(&counter, 5000, 5000) <= HLL_STATE_MOST(12) && counter.room == 40 + 4096, "after a reset it is trimmed again");
+        hll_counter_free(&counter);
+    }
+    CHECK(of.live == 0, "%ld blocks left", of.live);
+}
+
+/* A settled counter of many coupons is merged into another without a copy of it. */
+static void test_settled(void)
+{
+    static heap of;
+    hll_counter settled, all;
+    hll_counter_init(&settled, 18, allocate, &of);
+    hll_counter_init(&all, 18, NULL, NULL);
+    (void)most_room(&settled, 2000, 2000);
+    need(hll_counter_settle(&settled) == HLL_OK, "settle");
+    of.fails_at = 1;
+    CHECK(hll_counter_join_counter(&all, &settled) == HLL_OK && of.fails_at == 1, "a copy of a settled counter");
+    hll_counter_free(&settled);
+    hll_counter_free(&all);
 }
 
 /* The 8-bit image of a counter of lg_k 12. */
@@ -502,6 +546,8 @@ int main(int argc, char **argv)
     uint64_t first = argc > 2 ? (uint64_t)atol(argv[2]) : 1;
     test_refused_coupons();
     test_room();
+    test_reserved();
+    test_settled();
     life_copied();
     life_closed();
     for (i = 0; i < walks; i++) {

@@ -58,6 +58,6 @@ IS(counter, hll_counter, 120, 8);
 AT(hll_counter, context, 8);
 AT(hll_counter, room, 16);
 AT(hll_counter, lg_max_k, 20);
-AT(hll_counter, is_loose, 21);
+AT(hll_counter, has_spare_room, 21);
 AT(hll_counter, is_reserved, 22);
 AT(hll_counter, at, 24);

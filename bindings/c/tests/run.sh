@@ -51,6 +51,7 @@ test_header() {
     for standard in c99 c11 c17; do
         expect "headers as $standard" $CC $strict -std=$standard -x c -fsyntax-only hll_state.h
     done
+    expect 'counter.c with malloc alone' $CC $strict -std=c99 -DHLL_MALLOC_ONLY -c -o "$tests/counter.o" counter.c
     expect "estimate.c as c99" $CC $strict -std=c99 -c -o "$tests/estimate.o" estimate.c
     expect "merge.c as c99" $CC $strict -std=c99 -I. -c -o "$tests/example.o" ../../examples/merge.c
     expect "users.c as c99" $CC $strict -std=c99 -I. -O1 -o "$tests/users" ../../examples/users.c "$build/libhll.a"

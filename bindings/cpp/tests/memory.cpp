@@ -5,6 +5,7 @@
 
 #include <algorithm>
 #include <list>
+#include <numeric>
 #include <sys/mman.h>
 
 using hll::sketch;
@@ -252,6 +253,13 @@ static void test_memory_size()
         one.update(n);
     }
     CHECK(is_right);
+    sketch many(12);
+    std::vector<uint64_t> values(10000, 7);
+    many.update_many(values); // after each of these the room that was reserved is freed
+    CHECK(many.memory_size() == 0);
+    std::iota(values.begin(), values.end(), uint64_t(0));
+    many.update_many(values);
+    CHECK(many.memory_size() == 40 + 4096);
     for (unsigned lg_k = 4; lg_k <= 14; lg_k++) {
         union_ all(lg_k);
         for (int part = 0; part < 40; part++) { // 10, 20, .. 400 values

@@ -1,5 +1,5 @@
 // SPDX-License-Identifier: Apache-2.0
-// Threads call const members of one sketch and of one union at once, with coupons that wait and without. Also built with
+// Threads call const members of one sketch and of one union at once, with sorted coupons and with others. Also built with
 // gcc's check for races. Link it with -pthread.
 #include "test.hpp"
 

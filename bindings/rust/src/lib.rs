@@ -3,8 +3,8 @@
 //!
 //! Proved calls of the C library hash and add values, read, merge and write images, and estimate from registers. What a counter (a
 //! sketch that grows by itself) counts, merges and writes, and what it estimates from registers, is decided by proved calls alone.
-//! Bounds, and estimates from few values, are plain C (`estimate.c`). The C around both gets memory, copies bytes to it and frees it.
-//! What is plain C is tested, not proved.
+//! Bounds, and estimates from few values, are plain C (`estimate.c`). The C of a counter allocates memory, copies bytes to it and frees
+//! it. What is plain C is tested, not proved.
 //!
 //! The module [`hll`] has the names of the module `hll` of the crate `datasketches` (0.6.0), the original. To switch, change
 //! the crate's name in `Cargo.toml` and in `use`. The README says what differs.

@@ -32,7 +32,7 @@ fn filled(values: std::ops::Range<u64>) -> HllSketch {
     sketch
 }
 
-/// Threads read one sketch and one union at once, with coupons that wait and without. Each reads what one thread alone read.
+/// Threads read one sketch and one union at once, with sorted coupons and with others. Each reads what one thread alone read.
 #[test]
 fn one_sketch_is_read_by_many() {
     for n in [0, 3, 16, 17, 30, 300, 390, 500, 30_000] {

@@ -26,11 +26,11 @@
 //!
 //! **Memory.** The calls with the names of the original end the program if an allocation fails, as `Vec` does. The calls with
 //! `try_` in their name, and those that return a `Result` anyhow, return [`ErrorKind::OutOfMemory`](crate::error::ErrorKind),
-//! and then the sketch is as it was. A sketch takes 128 bytes with up to 14 values. Then it allocates four bytes for each
+//! and then the sketch is as it was. A sketch takes 128 bytes with up to 14 values (fewer if they repeat). Then it allocates four bytes for each
 //! value, with room for half as many more, and one byte for each register later.
 //!
-//! **Threads.** Sketches and unions are `Send` and `Sync`. The library may reorder the bytes of a sketch that it reads, so each
-//! call on `&self` reads a copy.
+//! **Threads.** Sketches and unions are `Send` and `Sync`. A call on `&self` copies coupons that aren't sorted, and sorts the
+//! copy.
 
 #![forbid(unsafe_code)]
 

@@ -10,7 +10,7 @@ use crate::error::{or_abort, Error, Result};
 use crate::hash::with_bytes_of;
 use crate::libhll::{self, Counter, Status};
 
-/// A sketch. With at most 14 values it owns no memory of the heap.
+/// A sketch. With at most 14 values, or fewer if they repeat, it owns no memory of the heap.
 pub(super) struct State(Counter);
 
 impl Clone for State {
