@@ -9,29 +9,29 @@
 #include <stdlib.h>
 #include <string.h>
 
-struct entry {
+struct counted {
     char key[64];
     hll_counter users;
 };
 
 static int by_key(const void *a, const void *b)
 {
-    return strcmp(((const struct entry *)a)->key, ((const struct entry *)b)->key);
+    return strcmp(((const struct counted *)a)->key, ((const struct counted *)b)->key);
 }
 
 static void print(const void *node, VISIT visit, int depth)
 {
-    const struct entry *entry = *(struct entry *const *)node;
+    const struct counted *counted = *(struct counted *const *)node;
     hll_estimation found;
     (void)depth;
-    if ((visit == postorder || visit == leaf) && hll_counter_estimate(&entry->users, &found) == HLL_OK)
-        printf("%.0f %s\n", found.estimate, entry->key);
+    if ((visit == postorder || visit == leaf) && hll_counter_estimate(&counted->users, &found) == HLL_OK)
+        printf("%.0f %s\n", found.estimate, counted->key);
 }
 
 /* Returns the counter of a key in the tree, which is new if there is none, or NULL if an allocation fails. */
-static hll_counter *users_of(void **tree, const struct entry *wanted)
+static hll_counter *users_of(void **tree, const struct counted *wanted)
 {
-    struct entry **found = tfind(wanted, tree, by_key), *made = NULL;
+    struct counted **found = tfind(wanted, tree, by_key), *made = NULL;
     if (found == NULL && (made = malloc(sizeof *made)) != NULL) {
         *made = *wanted;
         (void)hll_counter_init(&made->users, 12, NULL, NULL);
@@ -42,7 +42,7 @@ static hll_counter *users_of(void **tree, const struct entry *wanted)
 
 int main(void)
 {
-    static struct entry wanted;
+    static struct counted wanted;
     hll_counter *users;
     void *tree = NULL;
     char user[64];
