@@ -25061,7 +25061,11 @@ hll_c.state.add_raw:
 .LBBf9993740_20:
 	cmp	x12, x19
 	b.ls	.LBBf9993740_47
-	adds	x12, x10, x9, lsr #2
+	cmp	x8, x25
+	mov	w12, #4
+	csinc	x12, x12, xzr, hi
+	lsr	x12, x9, x12
+	adds	x12, x12, x10
 	csinv	x12, x12, xzr, lo
 	cmp	x12, x9
 	b.hs	.LBBf9993740_35
@@ -27545,22 +27549,27 @@ hll_state.header.Header.merge_image.15c4de05cbec3970:
 	mov	w11, #7
 	lsr	x10, x10, #2
 	csel	x10, x11, x10, eq
+	mov	x11, x9
 	cmp	x9, x10
 	b.ls	.LBB9dcb7089_117
-	and	w9, w8, #0xff
-	mov	w10, #4
-	sub	w11, w4, #2
-	cmp	w9, #4
-	mov	w12, #1
-	csel	w9, w9, w10, hi
-	lsl	x10, x12, x11
-	lsl	x9, x12, x9
-	add	x9, x9, x10
+	and	w11, w8, #0xff
+	mov	w12, #4
+	sub	w13, w4, #2
+	cmp	w11, #4
+	mov	w14, #1
+	csel	w11, w11, w12, hi
+	lsl	x12, x14, x13
+	lsl	x11, x14, x11
+	add	x11, x11, x12
 .LBB9dcb7089_117:
-	cmp	x9, x25
+	cmp	x11, x25
 	b.ls	.LBB9dcb7089_124
-	ldr	x8, [x20, #24]
-	adds	x8, x8, x24, lsr #2
+	cmp	x9, x10
+	mov	w8, #4
+	ldr	x9, [x20, #24]
+	csinc	x8, x8, xzr, hi
+	lsr	x8, x24, x8
+	adds	x8, x8, x9
 	csinv	x8, x8, xzr, lo
 	cmp	x8, x24
 	b.hs	.LBB9dcb7089_123
@@ -30438,34 +30447,39 @@ hll_state.header.Header.merge_table.15c4de05cbec3970:
 	ldr	x23, [x4, #8]
 .LBB6de8ee65_10:
 	ldr	x9, [x19, #32]
-	sub	w11, w8, #3
-	mov	w12, #3
+	sub	w12, w8, #3
+	mov	w11, #3
 	adds	x10, x23, x9
 	csinv	x10, x10, xzr, lo
 	cmp	w8, #8
-	csel	w13, w12, w11, lo
-	lsl	x12, x12, x13
+	csel	w13, w11, w12, lo
+	lsl	x11, x11, x13
 	and	w13, w13, #0xff
 	cmp	w13, #3
 	mov	w13, #7
-	lsr	x12, x12, #2
-	csel	x12, x13, x12, eq
-	cmp	x10, x12
+	lsr	x11, x11, #2
+	csel	x11, x13, x11, eq
+	mov	x13, x10
+	cmp	x10, x11
 	b.ls	.LBB6de8ee65_12
-	and	w10, w11, #0xff
-	mov	w11, #4
-	sub	w12, w8, #2
-	cmp	w10, #4
-	mov	w13, #1
-	csel	w10, w10, w11, hi
-	lsl	x11, x13, x12
-	lsl	x10, x13, x10
-	add	x10, x10, x11
+	and	w12, w12, #0xff
+	mov	w13, #4
+	sub	w14, w8, #2
+	cmp	w12, #4
+	mov	w15, #1
+	csel	w12, w12, w13, hi
+	lsl	x13, x15, x14
+	lsl	x12, x15, x12
+	add	x13, x12, x13
 .LBB6de8ee65_12:
-	cmp	x10, x20
+	cmp	x13, x20
 	b.ls	.LBB6de8ee65_19
-	ldr	x10, [x19, #24]
-	adds	x10, x10, x9, lsr #2
+	cmp	x10, x11
+	mov	w10, #4
+	ldr	x11, [x19, #24]
+	csinc	x10, x10, xzr, hi
+	lsr	x10, x9, x10
+	adds	x10, x10, x11
 	csinv	x10, x10, xzr, lo
 	cmp	x10, x9
 	b.hs	.LBB6de8ee65_18
@@ -44202,7 +44216,11 @@ hll_state_add:
 	csel	x10, x13, x9, hi
 	cmp	x10, x23
 	b.ls	.LBBdd0b67cd_43
-	adds	x8, x25, x24, lsr #2
+	cmp	x9, x17
+	mov	w8, #4
+	csinc	x8, x8, xzr, hi
+	lsr	x8, x24, x8
+	adds	x8, x8, x25
 	csinv	x8, x8, xzr, lo
 	cmp	x8, x24
 	b.hs	.LBBdd0b67cd_72
@@ -44882,7 +44900,11 @@ hll_state_add_coupons:
 	csel	x14, x26, x13, hi
 	cmp	x14, x19
 	b.ls	.LBB3101b376_48
-	adds	x11, x9, x8, lsr #2
+	cmp	x13, x27
+	mov	w11, #4
+	csinc	x11, x11, xzr, hi
+	lsr	x11, x8, x11
+	adds	x11, x11, x9
 	csinv	x11, x11, xzr, lo
 	cmp	x11, x8
 	b.hs	.LBB3101b376_49
@@ -44976,7 +44998,7 @@ hll_state_add_value:
 	add	x19, x0, x9
 	stp	x29, x30, [sp, #32]
 	add	x29, sp, #32
-	stp	x22, x21, [sp, #48]
+	str	x21, [sp, #48]
 	b.ne	.LBB1dcf56cb_2
 	mov	x9, #21461
 	ldr	x8, [x3, x8]
@@ -45022,8 +45044,9 @@ hll_state_add_value:
 	bfi	w9, w8, #26, #6
 	mov	w8, #67108864
 	add	w2, w9, w8
-	cbnz	x1, .LBB1dcf56cb_3
-	b	.LBB1dcf56cb_21
+	subs	x8, x1, #10
+	b.hs	.LBB1dcf56cb_3
+	b	.LBB1dcf56cb_20
 .LBB1dcf56cb_2:
 	add	x0, x3, x8
 	mov	x21, x1
@@ -45031,55 +45054,52 @@ hll_state_add_value:
 	bl	hll_coupons.coupon.Coupon.from_any_bytes
 	mov	x1, x21
 	mov	w2, w0
-	cbz	x21, .LBB1dcf56cb_21
+	subs	x8, x21, #10
+	b.lo	.LBB1dcf56cb_20
 .LBB1dcf56cb_3:
 	ldr	w9, [x19]
+	mov	w10, #19522
+	movk	w10, #584, lsl #16
+	cmp	w9, w10
+	b.eq	.LBB1dcf56cb_11
 	mov	w10, #19521
 	movk	w10, #584, lsl #16
 	cmp	w9, w10
-	b.ne	.LBB1dcf56cb_11
-	subs	x8, x1, #10
-	b.lo	.LBB1dcf56cb_21
+	b.ne	.LBB1dcf56cb_20
 	ldr	w12, [x19, #4]
-	and	w13, w12, #0x1f
-	sub	w9, w13, #4
-	cmp	w9, #17
-	b.hi	.LBB1dcf56cb_21
-	ldp	w9, w15, [x19, #12]
-	sub	w14, w13, #3
-	and	w10, w14, #0xff
-	and	x11, x9, #0x1f
-	and	w9, w11, #0xff
+	sub	w9, w12, #22
+	cmn	w9, #18
+	b.lo	.LBB1dcf56cb_20
+	ldr	w9, [x19, #12]
+	sub	w13, w12, #3
+	and	w11, w9, #0x1f
+	and	w9, w13, #0xff
 	cmp	w11, #4
-	ccmp	w10, w9, #0, hi
-	ldp	w10, w9, [x19, #20]
-	cset	w16, hs
+	ccmp	w11, w9, #2, hi
+	ldp	w9, w10, [x19, #20]
+	cset	w14, ls
 	cmp	w11, #3
 	b.eq	.LBB1dcf56cb_8
-	cbz	w16, .LBB1dcf56cb_21
+	cbz	w14, .LBB1dcf56cb_20
 .LBB1dcf56cb_8:
-	cmp	w15, #1
-	b.eq	.LBB1dcf56cb_19
+	ldr	w14, [x19, #16]
+	cmp	w14, #1
+	b.eq	.LBB1dcf56cb_17
 	cmp	w11, #3
-	b.ne	.LBB1dcf56cb_18
-	cmp	w9, #8
-	b.ls	.LBB1dcf56cb_19
-	b	.LBB1dcf56cb_21
+	b.ne	.LBB1dcf56cb_16
+	cmp	w10, #8
+	b.ls	.LBB1dcf56cb_17
+	b	.LBB1dcf56cb_20
 .LBB1dcf56cb_11:
-	subs	x8, x1, #10
-	b.lo	.LBB1dcf56cb_21
-	add	w10, w10, #1
-	cmp	w9, w10
-	b.ne	.LBB1dcf56cb_21
 	ldr	w9, [x19, #4]
 	and	w10, w9, #0x1f
 	sub	w11, w10, #4
 	cmp	w11, #17
-	b.hi	.LBB1dcf56cb_21
-	tbnz	w9, #5, .LBB1dcf56cb_21
+	b.hi	.LBB1dcf56cb_20
+	tbnz	w9, #5, .LBB1dcf56cb_20
 	sub	w10, w10, #2
 	lsr	x8, x8, x10
-	cbz	x8, .LBB1dcf56cb_21
+	cbz	x8, .LBB1dcf56cb_20
 	mov	w8, #-1
 	lsl	w8, w8, w9
 	bic	w8, w2, w8
@@ -45089,91 +45109,83 @@ hll_state_add_value:
 	add	x8, x9, x8
 	ldrb	w8, [x8, #40]
 	cmp	w8, w2, lsr #26
-	b.lo	.LBB1dcf56cb_21
+	b.lo	.LBB1dcf56cb_20
 	ldp	x20, x19, [sp, #64]
 	mov	w0, wzr
-	ldp	x22, x21, [sp, #48]
 	ldp	x29, x30, [sp, #32]
+	ldr	x21, [sp, #48]
 	add	sp, sp, #80
 	ret
-.LBB1dcf56cb_18:
-	lsr	x15, x9, x11
-	cbnz	x15, .LBB1dcf56cb_21
-.LBB1dcf56cb_19:
-	cmp	w10, w9
-	b.hi	.LBB1dcf56cb_21
-	and	w15, w14, #0xff
-	mov	w16, #4
-	cmp	w15, #4
-	csel	w15, w15, w16, hi
-	mov	w16, #1
-	lsl	x15, x16, x15
-	cmp	x15, x9
-	b.hs	.LBB1dcf56cb_22
-.LBB1dcf56cb_21:
+.LBB1dcf56cb_16:
+	lsr	x14, x10, x11
+	cbnz	x14, .LBB1dcf56cb_20
+.LBB1dcf56cb_17:
+	cmp	w9, w10
+	b.hi	.LBB1dcf56cb_20
+	and	w14, w13, #0xff
+	mov	w15, #4
+	cmp	w14, #4
+	csel	w14, w14, w15, hi
+	lsr	x15, x10, x14
+	cbnz	x15, .LBB1dcf56cb_20
+	cmp	w12, #8
+	mov	w15, #3
+	mov	w16, #7
+	csel	w13, w15, w13, lo
+	lsl	x15, x15, x13
+	and	w13, w13, #0xff
+	cmp	w13, #3
+	sub	w13, w12, #2
+	mov	w12, #1
+	lsr	x15, x15, #2
+	lsl	x13, x12, x13
+	lsl	x14, x12, x14
+	csel	x15, x16, x15, eq
+	add	x13, x14, x13
+	cmp	x15, x10
+	csinc	x13, x13, x10, ls
+	cmp	x13, x8
+	b.ls	.LBB1dcf56cb_21
+.LBB1dcf56cb_20:
 	mov	x0, x19
 	mov	x3, x20
+	ldr	x21, [sp, #48]
 	ldp	x20, x19, [sp, #64]
-	ldp	x22, x21, [sp, #48]
 	ldp	x29, x30, [sp, #32]
 	add	sp, sp, #80
 	b	hll_c.state.add_raw
-.LBB1dcf56cb_22:
-	cmp	w13, #8
-	mov	w16, #3
-	sub	w13, w13, #2
-	csel	w14, w16, w14, lo
-	mov	w17, #1
-	lsl	x16, x16, x14
-	and	w14, w14, #0xff
-	lsl	x17, x17, x13
-	cmp	w14, #3
-	mov	w14, #7
-	lsr	x16, x16, #2
-	csel	x13, x14, x16, eq
-	add	x14, x15, x17
-	cmp	x13, x9
-	csel	x16, x14, x9, lo
-	tbnz	w12, #5, .LBB1dcf56cb_21
-	cmp	x16, x8
-	b.hi	.LBB1dcf56cb_21
-	cmp	x15, x9
-	b.eq	.LBB1dcf56cb_21
-	cmp	x13, x9
-	csinc	x12, x14, x9, ls
-	cmp	x12, x8
-	b.hi	.LBB1dcf56cb_21
+.LBB1dcf56cb_21:
 	strb	w11, [sp, #8]
-	cmp	x10, #32
+	cmp	x9, #32
 	mov	w11, #32
-	sub	x12, x9, x10
-	csel	x11, x10, x11, hi
-	mov	w20, #1
-	cmp	x11, x12
-	add	x21, x19, #40
-	strh	wzr, [sp, #14]
+	sub	x13, x10, x9
+	csel	x11, x9, x11, hi
+	add	x20, x19, #40
+	cmp	x11, x13
 	stur	wzr, [sp, #10]
-	stp	x10, x9, [sp, #16]
-	strb	w20, [sp, #9]
-	b.hi	.LBB1dcf56cb_28
+	strh	wzr, [sp, #14]
+	stp	x9, x10, [sp, #16]
+	strb	w12, [sp, #9]
+	b.hi	.LBB1dcf56cb_23
 	add	x9, sp, #8
 	add	x1, x19, #40
-	mov	w22, w2
+	mov	w21, w2
 	add	x0, x9, #8
 	mov	x2, x8
 	bl	hll_state.run.CouponRun.settle
-	ldr	x9, [sp, #24]
-	ldr	w10, [sp, #16]
-	mov	w2, w22
-.LBB1dcf56cb_28:
-	add	w8, w9, #1
-	str	w2, [x21, x9, lsl #2]
-	stp	w20, w10, [x19, #16]
+	ldr	x10, [sp, #24]
+	ldr	w9, [sp, #16]
+	mov	w2, w21
+.LBB1dcf56cb_23:
+	add	x8, x10, #1
+	str	w2, [x20, x10, lsl #2]
+	mov	w10, #1
+	stp	w10, w9, [x19, #16]
 	str	w8, [x19, #24]
 	ldp	x20, x19, [sp, #64]
 	mov	w0, wzr
-	ldp	x22, x21, [sp, #48]
 	ldp	x29, x30, [sp, #32]
+	ldr	x21, [sp, #48]
 	add	sp, sp, #80
 	ret
 .Lfunc_end1dcf56cb:
