@@ -307,21 +307,24 @@ hll_status hll_counter_join_counter(hll_counter *counter, const hll_counter *oth
 
 hll_status hll_counter_init(hll_counter *counter, unsigned lg_k, hll_allocator allocator, void *context)
 {
-    hll_counter made = {0};
-    hll_status status = hll_state_new(lg_k, made.at.first, sizeof made.at.first);
+    static const uint8_t none[sizeof counter->at.first - HLL_STATE_NEW]; /* (WebAssembly's build has no memset) */
+    hll_status status = hll_state_new(lg_k, counter->at.first, sizeof counter->at.first);
     if (status != HLL_OK)
         return status;
-    made.allocator = allocator != NULL ? allocator : ALLOCATOR(by_malloc);
-    made.context = context;
-    made.lg_max_k = (uint8_t)lg_k;
-    *counter = made;
+    memcpy(counter->at.first + HLL_STATE_NEW, none, sizeof none);
+    counter->allocator = allocator != NULL ? allocator : ALLOCATOR(by_malloc);
+    counter->context = context;
+    counter->room = 0;
+    counter->lg_max_k = (uint8_t)lg_k;
+    counter->has_spare_room = counter->is_reserved = 0;
     return HLL_OK;
 }
 
 void hll_counter_free(hll_counter *counter)
 {
     release(counter);
-    (void)hll_counter_init(counter, counter->lg_max_k, counter->allocator, counter->context);
+    (void)hll_state_new(counter->lg_max_k, counter->at.first, sizeof counter->at.first);
+    counter->has_spare_room = counter->is_reserved = 0;
 }
 
 void hll_counter_reset(hll_counter *counter)
