@@ -16,7 +16,7 @@ import tempfile
 
 ROOT = pathlib.Path(__file__).resolve().parent.parent
 LIBRARY = ROOT / "bindings" / "c"
-NUMBERS = [1, 7, 16, 20, 100, 300, 1000, 100000]
+NUMBERS = [1, 7, 14, 20, 100, 300, 1000, 100000]
 RUNS = 7
 
 CPP = r"""

@@ -26,7 +26,7 @@ import tempfile
 
 ROOT = pathlib.Path(__file__).resolve().parent.parent
 BINDINGS = ROOT / "bindings"
-NUMBERS = [0, 7, 16, 20, 100, 300, 1000, 10000]
+NUMBERS = [0, 7, 14, 20, 100, 300, 1000, 10000]
 SKETCHES = 400
 
 HEAP = r"""
@@ -109,7 +109,7 @@ fn main() {
             one.update(value);
             value += 1;
         }
-        one.estimate();
+        let _ = one.estimate();
         made.push(one);
     }
     println!("{}", in_use() - before);
@@ -128,7 +128,7 @@ import (
 	"runtime"
 	"strconv"
 
-	"hll"
+	hll "cimbarohe.invalid/hll"
 )
 
 func inUse() int {

@@ -7,7 +7,7 @@
 //
 // Proved calls of the C library hash and add values, read, merge and write images, and estimate from registers. What a counter (a
 // sketch that grows by itself) counts, merges and writes, and what it estimates from registers, is decided by proved calls alone.
-// Bounds, and estimates from few values, are plain C (estimate.c). The C of a counter allocates memory, copies bytes to it and frees
+// Bounds, and estimates from few values, are plain C (`estimate.c`). The C of a counter allocates memory, copies bytes to it and frees
 // it. What is plain C is tested, not proved.
 //
 //	monday, err := hll.New(12)

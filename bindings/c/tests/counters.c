@@ -19,7 +19,7 @@ static void *allocate(void *context, void *memory, size_t size)
     if (size > 0 && of->fails_at != 0 && --of->fails_at == 0)
         return NULL;
     if (size > 0) {
-        made = malloc(size + 2 * sizeof *made);
+        made = calloc(1, size + 2 * sizeof *made); /* sum_of reads all of it */
         need(made != NULL, "memory");
         *made = size;
         if (block != NULL)

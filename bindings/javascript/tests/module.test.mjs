@@ -419,7 +419,7 @@ test("an allocation that fails leaves a sketch as it was", async () => {
       assert.ok(n < 100);
     }
   }
-  assert.ok(failures > 60, `${failures}`);
+  assert.ok(failures > 50, `${failures}`);
   const registers = new own.Registers(19).add("a"), before = registers.array.slice(), used = inUse();
   const large = new Sketch(19).addMany(Int32Array.from({ length: 200000 }, (_, i) => i)).toBytes();
   for (let n = 1; n < 3; n++) {

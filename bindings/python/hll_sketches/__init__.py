@@ -14,8 +14,8 @@ merged into the sketch of all their values.
 Proved calls of the C library hash and add values, read, merge and write images, and estimate from
 registers. What a counter (a sketch that grows by itself) counts, merges and writes, and what it
 estimates from registers, is decided by proved calls alone. Bounds, and estimates from few values, are
-plain C (estimate.c). The C of a counter allocates memory, copies bytes to it and frees it. What is
-plain C is tested, not proved, and so is this package.
+plain C (`estimate.c`). The C of a counter allocates memory, copies bytes to it and frees it. What is
+plain C is tested, not proved. This package is tested, too.
 """
 from typing import TYPE_CHECKING
 
