@@ -313,6 +313,7 @@ static void walk(int steps)
     for (i = 0; i < 2; i++) {
         unsigned lg_k = pick(3) == 0 ? 0 : pick(3) == 0 ? lg_ks[1 + pick(7)] : usual;
         memset(&heaps[i], 0, sizeof heaps[i]);
+        memset(&counters[i], 0, sizeof counters[i]); /* with what is between members, since sum_of reads it */
         CHECK(hll_counter_init(&counters[i], lg_k, allocate, &heaps[i]) == HLL_OK, "init");
         model_init(&models[i], lg_k);
     }
