@@ -98,7 +98,7 @@ fn reads() {
         assert!(fail_each(|| HllSketch::try_from(&image[..]), is_unchanged) >= usize::from(n > OWN));
         FAILS_AT.with(|place| place.set(1));
         assert_eq!(sketch.write_to(std::io::sink()).unwrap_err().kind(), std::io::ErrorKind::OutOfMemory);
-        assert!(fail_each(|| union_of([&image, &image]), is_unchanged) >= 1);
+        assert!(fail_each(|| union_of([&image, &image]), is_unchanged) >= usize::from(n >= OWN));
         assert!(fail_each(|| merge_images(12, HllType::Hll8, &[&image, &image]), is_unchanged) >= 3);
         fail_each(|| check(&image), is_unchanged);
         fail_each(|| hip_estimate(&image), is_unchanged);
