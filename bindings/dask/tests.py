@@ -375,7 +375,7 @@ def several_aggregations(client, folder, images, paths):
     made = Sketch(10, 4)
     made.update_many(["ann", "bob"])
     equal("one of several", found["visitor"]["hll_sketch_10_4"][1], made.to_bytes())
-    for column, aggregation, words in (("time", sketch_aggregation(), "not Timestamp"), ("visitor", union_aggregation(), "not str")):
+    for column, aggregation, words in (("time", sketch_aggregation(), "datetime64[ns] can't be counted"), ("visitor", union_aggregation(), "not str")):
         lazy = table[column].agg(aggregation)
         try:
             lazy.compute(scheduler="threads")
