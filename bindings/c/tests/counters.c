@@ -446,7 +446,7 @@ static void test_room(void)
     hll_counter_free(&counter);
 }
 
-/* After hll_counter_reserve adding allocates nothing, whatever the counter had before. */
+/* After hll_counter_reserve adding allocates and frees nothing, whatever the counter had before, and after a merge, too. */
 static void test_reserved(void)
 {
     static const size_t sizes[] = {0, 5, 100, 384, 4000};
@@ -459,6 +459,8 @@ static void test_reserved(void)
         need(hll_counter_add_many(&counter, values, 8 * sizes[i], ends, sizes[i]) == HLL_OK, "values");
         CHECK(hll_counter_reserve(&counter) == HLL_OK, "reserve");
         of.fails_at = 1;
+        need(hll_image_new(12, 8, image, MOST, &image_len) == HLL_OK, "new");
+        need(hll_counter_join(&counter, image, image_len) == HLL_OK, "an empty image");
         (void)most_room(&counter, 5000, 5000);
         CHECK(of.fails_at == 1, "%zu values before: an allocation after it was reserved", sizes[i]);
         of.fails_at = 0;
