@@ -23,7 +23,7 @@ const SIZES: [usize; 7] = [
 
 #[test]
 fn sizes_of_shared_types() {
-    assert!(SIZES.iter().all(|&size| 0 < size && size <= 120), "{SIZES:?}");
+    assert!(SIZES.iter().all(|&size| 0 < size && size <= 128), "{SIZES:?}");
 }
 
 fn filled(values: std::ops::Range<u64>) -> HllSketch {
