@@ -378,7 +378,7 @@ class NumPyTest(ColumnTest):
         """The error has a line that counts the column as SQL counts its times."""
         wanted = one_by_one([1795824000000000, 1795824000000001])
         for zone in (None, "UTC", "Asia/Kolkata"):
-            times = pandas.to_datetime(["2026-11-28T00:00:00", "2026-11-28T00:00:00.000001", None])
+            times = pandas.to_datetime(["2026-11-28T00:00:00.000000", "2026-11-28T00:00:00.000001", None])
             times = times if zone is None else times.tz_localize("UTC").tz_convert(zone)
             for values in (times, pandas.Series(times, name="seen")):
                 with self.assertRaisesRegex(TypeError, f"a column of datetime64.*{zone or ''}.* can't be counted: pass") as caught:
