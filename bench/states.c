@@ -3,6 +3,7 @@
  * second table has values, images and orders that were chosen to be slow, compared with random ones. bench/states.py builds and
  * runs it. */
 #define _POSIX_C_SOURCE 199309L
+#include "hll_state.h"
 #include "images.h"
 
 #include <time.h>
